@@ -1,0 +1,4 @@
+pub mod Characters
+pub mod Templates
+pub mod Texts
+pub mod Unifying

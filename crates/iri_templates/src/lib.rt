@@ -1,0 +1,12 @@
+//! IRI templates: texts with holes that table cells fill, percent-encoded.
+#![tactic(auto)]
+
+mod fault;
+mod segment;
+mod template;
+mod unifier;
+
+pub use fault::TemplateFault;
+pub use segment::{Part, Segment};
+pub use template::Template;
+pub use unifier::{Meet, Unifier};
