@@ -1,2 +1,3 @@
 mod Afters
 mod Cuts
+mod Gathers

@@ -4,3 +4,5 @@ pub mod Kinds
 pub mod Form
 pub mod Project
 pub mod Seen
+pub mod Rows
+pub mod SeenRows

@@ -5,5 +5,7 @@ mod form;
 mod lines;
 mod pieces;
 mod project;
+mod rows;
 
 pub use project::{Form, Model, Notes, Source, read_form};
+pub use rows::{Row, RowsFault, read_rows};
