@@ -1,0 +1,114 @@
+//! The files of a real folder. They tell no contents.
+ghost use Rattle.std.specs.Prelude.{◌≡◌, false, None, is_some};
+
+use crate::{Failed, Shelf};
+use std::fs;
+use std::io::{ErrorKind, Read};
+use std::rt::Files;
+
+/// Real files, by names that are given to the system as they are: a relative one is looked up from
+/// the folder that the program runs in.
+///
+/// One call of `read` makes one call of the system. A file that does not exist raises `absences`
+/// alone, and every other error raises `faults`.
+#[derive(Drop)]
+pub struct FolderShelf<'a, R: Files> {
+    rt: &'a R,
+    current: Option<R::File>,
+    faults: u64,
+    absences: u64,
+}
+
+impl<'a, R: Files> FolderShelf<'a, R> {
+    /// A shelf with no current file.
+    pub fn new(rt: &'a R) -> Self
+        ensures open { ⟦<FolderShelf<'a, R> as Shelf>⟧.is_open result ≡ false }
+        ensures faults { ⟦<FolderShelf<'a, R> as Shelf>⟧.faults result ≡ 0 }
+        ensures absences { ⟦<FolderShelf<'a, R> as Shelf>⟧.absences result ≡ 0 }
+    {
+        FolderShelf {
+            rt,
+            current: None,
+            faults: 0,
+            absences: 0,
+        }
+    }
+}
+
+impl<'a, R: Files> Shelf for FolderShelf<'a, R> {
+    ghost held = { λ s. None };
+
+    ghost is_open = { λ s. is_some s.current };
+
+    ghost left = { λ s. None };
+
+    ghost faults = { λ s. s.faults };
+
+    ghost absences = { λ s. s.absences };
+
+    fn begin(&mut self, name: &str) -> Result<bool, Failed> {
+        self.current = None;
+        match fs::open(self.rt, name) {
+            Ok(file) => {
+                self.current = Some(file);
+                Ok(true)
+            }
+            Err(e) => {
+                if e.kind() == ErrorKind::NotFound {
+                    self.absences = self.absences.saturating_add(1);
+                    Ok(false)
+                } else {
+                    self.faults = self.faults.saturating_add(1);
+                    Err(Failed)
+                }
+            }
+        }
+    }
+
+    fn read(&mut self, buf: &mut [u8]) -> Result<usize, Failed> {
+        match &mut self.current {
+            None => Ok(0),
+            Some(file) => match file.read(buf) {
+                Ok(count) => Ok(count),
+                Err(_) => {
+                    self.faults = self.faults.saturating_add(1);
+                    Err(Failed)
+                }
+            },
+        }
+    }
+}
+
+#[cfg(test)]
+mod tests {
+    use crate::{FileFault, FolderShelf, read_file};
+    use std::fs;
+    use std::test::Fail;
+
+    #[test]
+    fn reads_real_files_and_counts_what_went_wrong(rt: HostRuntime) -> Result<(), Fail> {
+        let name = "outside_folder_shelf.txt";
+        fs::write(&rt, name, "one,two\n")?;
+        let mut shelf = FolderShelf::new(&rt);
+        let bytes = read_file(rt.alloc(), &mut shelf, name, 8)?;
+        assert_eq!(rt; bytes.slice(), b"one,two\n".as_slice());
+
+        // A folder opens and cannot be read; a name that leads through a file does not open.
+        let cases = [
+            (name, FileFault::TooLong, 0, 0),
+            ("outside_no_such_file.txt", FileFault::Absent, 0, 1),
+            (".", FileFault::Read, 1, 1),
+            ("outside_folder_shelf.txt/name", FileFault::Read, 2, 1),
+        ];
+        for (name, fault, faults, absences) in cases {
+            let answer = read_file(rt.alloc(), &mut shelf, name, 7).err();
+            assert_eq!(rt; answer, Some(fault));
+            assert!(rt;
+                shelf.faults == faults && shelf.absences == absences,
+                "{name}"
+            );
+        }
+        fs::remove_file(&rt, name)?;
+        Ok(())
+    }
+}

@@ -1,0 +1,66 @@
+//! A sink over a real stream. It tells no bytes.
+ghost use Rattle.std.specs.Prelude.{◌≡◌, false, None};
+
+use crate::{Sink, Stop};
+use std::io::Write;
+
+/// A sink over any writer, as standard output. It wants no memory.
+///
+/// One call of `write` makes one call of the writer's. Each error raises `faults`, and so does a
+/// writer that takes nothing of a piece that is not empty.
+#[derive(Drop)]
+pub struct StreamSink<W: Write + Drop> {
+    inner: W,
+    faults: u64,
+}
+
+impl<W: Write + Drop> StreamSink<W> {
+    /// A sink that writes to `inner`, and drops it in the end.
+    pub fn new(inner: W) -> Self
+        ensures wants { ⟦<StreamSink<W> as Sink>⟧.wants result ≡ false }
+        ensures faults { ⟦<StreamSink<W> as Sink>⟧.faults result ≡ 0 }
+    {
+        StreamSink { inner, faults: 0 }
+    }
+}
+
+impl<W: Write + Drop> Sink for StreamSink<W> {
+    ghost written = { λ s. None };
+
+    ghost wants = { λ s. false };
+
+    ghost faults = { λ s. s.faults };
+
+    fn write(&mut self, piece: &[u8]) -> Result<usize, Stop> {
+        match self.inner.write(piece) {
+            Ok(count) if count > 0 || piece.is_empty() => Ok(count),
+            _ => {
+                self.faults = self.faults.saturating_add(1);
+                Err(Stop::Failed)
+            }
+        }
+    }
+}
+
+#[cfg(test)]
+mod tests {
+    use crate::{Sink, StreamSink, write_all};
+    use std::fs;
+    use std::test::Fail;
+
+    #[test]
+    fn writes_real_files_and_counts_what_went_wrong(rt: HostRuntime) -> Result<(), Fail> {
+        let name = "outside_stream_sink.txt";
+        let mut sink = StreamSink::new(fs::create(&rt, name)?);
+        assert!(rt; write_all(&mut sink, b"events 2\n").is_ok());
+        assert!(rt; sink.write(b"").is_ok() && sink.faults == 0);
+        let text = fs::read_to_string(&rt, name)?;
+        assert_eq!(rt; text.as_str(), "events 2\n");
+
+        // A file that was opened to be read takes nothing.
+        let mut closed = StreamSink::new(fs::open(&rt, name)?);
+        assert!(rt; write_all(&mut closed, b"x").is_err() && closed.faults == 1);
+        fs::remove_file(&rt, name)?;
+        Ok(())
+    }
+}
