@@ -6,3 +6,5 @@ pub mod Project
 pub mod Seen
 pub mod Rows
 pub mod SeenRows
+pub mod Objects
+pub mod Texts

@@ -1,5 +1,5 @@
 -- The table of the first form: a header, and on each line an id and a time.
-use Rattle.std.specs.Prelude.{ℕ, Bool, true, false, List, [], ◌∷◌, ◌&&◌, ◌+◌, ◌-◌, ◌*◌, nat_le, nat_lt, length, Option, Some, None, Result, Ok, Err, if◌then◌else◌, codes}
+use Rattle.std.specs.Prelude.{ℕ, Bool, true, List, [], ◌∷◌, ◌&&◌, ◌+◌, ◌-◌, ◌*◌, nat_le, Option, Some, None, if◌then◌else◌, codes}
 use Rattle.first_form.specs.Lines.{lines_of, first_of}
 use Rattle.first_form.specs.Pieces.{is_digit, is_unreserved, after, run_of, ended, ◌>>=◌}
 

@@ -35,30 +35,48 @@ fn pair(a: u8, b: u8) -> u32
 fn two_of(low: u32, high: u32, line: &[u8]) -> Option<&[u8]>
     ensures { option_map (λ rest. rest.now) result ≡ two_of low high line.now }
 {
-    let [a, b, rest @ ..] = line else { return None; };
+    let [a, b, rest @ ..] = line else {
+        return None;
+    };
     if !is_digit(*a) || !is_digit(*b) {
         return None;
     }
     let number = pair(*a, *b);
-    if low <= number && number <= high { Some(rest) } else { None }
+    if low <= number && number <= high {
+        Some(rest)
+    } else {
+        None
+    }
 }
 
 fn year_of(line: &[u8]) -> Option<&[u8]>
     ensures { option_map (λ rest. rest.now) result ≡ year_of line.now }
 {
-    let [a, b, c, d, rest @ ..] = line else { return None; };
+    let [a, b, c, d, rest @ ..] = line else {
+        return None;
+    };
     if !is_digit(*a) || !is_digit(*b) || !is_digit(*c) || !is_digit(*d) {
         return None;
     }
     let year = 100 * pair(*a, *b) + pair(*c, *d);
-    if 1 <= year && year <= 9998 { Some(rest) } else { None }
+    if 1 <= year && year <= 9998 {
+        Some(rest)
+    } else {
+        None
+    }
 }
 
 fn three_of(line: &[u8]) -> Option<&[u8]>
     ensures { option_map (λ rest. rest.now) result ≡ three_of line.now }
 {
-    let [a, b, c, rest @ ..] = line else { return None; };
-    if is_digit(*a) && is_digit(*b) && is_digit(*c) { Some(rest) } else { None }
+    let [a, b, c, rest @ ..] = line else {
+        return None;
+    };
+    if is_digit(*a) && is_digit(*b) && is_digit(*c) {
+        Some(rest)
+    } else {
+        None
+    }
 }
 
 #[tactic(auto, unfolding(crate::specs::Rows::day_of))]

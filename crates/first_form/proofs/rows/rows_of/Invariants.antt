@@ -1,4 +1,4 @@
-use Rattle.std.proofs.Common.{◌≡◌, ℕ, length, map}
+use Rattle.std.proofs.Common.{◌≡◌, length, map}
 use Rattle.first_form.specs.Lines.{lines_of}
 use Rattle.first_form.specs.Rows.{rows_of}
 use Rattle.first_form.specs.SeenRows.{row_seen}
