@@ -68,7 +68,7 @@ class_line : tokens_of (codes "class A") ≡ Some (word (codes "class") ∷ word
 unfolding tokens_behind token_front chars word
 class_line = refl
 
-assoc_line : tokens_of (codes "assoc writes Person 1..* -> Paper 0..1") ≡ Some (word (codes "assoc") ∷ word (codes "writes") ∷ word (codes "Person") ∷ number (codes "1") ∷ sign (codes "..") ∷ sign (codes "*") ∷ sign (codes "->") ∷ word (codes "Paper") ∷ number (codes "0") ∷ sign (codes "..") ∷ number (codes "1") ∷ [])
+assoc_line : tokens_of (codes "assoc writes Person 1..* -> Work 0..1") ≡ Some (word (codes "assoc") ∷ word (codes "writes") ∷ word (codes "Person") ∷ number (codes "1") ∷ sign (codes "..") ∷ sign (codes "*") ∷ sign (codes "->") ∷ word (codes "Work") ∷ number (codes "0") ∷ sign (codes "..") ∷ number (codes "1") ∷ [])
 unfolding tokens_behind token_front chars word number sign
 assoc_line = refl
 
