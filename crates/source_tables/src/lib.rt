@@ -1,0 +1,10 @@
+//! Tables: their declarations, and what the bytes of a file are under one.
+#![tactic(auto)]
+
+mod decl;
+mod fault;
+mod table;
+
+pub use decl::{ColumnDecl, TableDecl};
+pub use fault::TableFault;
+pub use table::Table;
