@@ -7,6 +7,8 @@ mod halt;
 mod lines;
 mod reading;
 mod status;
+#[cfg(test)]
+mod tests;
 mod top;
 
 pub use halt::Stopped;
