@@ -1,7 +1,8 @@
 -- The laws of the rewriting, as the functions of `laws` state them.
-use Rattle.std.specs.Prelude.{◌↔◌, List}
+use Rattle.std.specs.Prelude.{◌↔◌, List, ◌≡◌, Some}
 use Rattle.vocabulary.specs.declared.term.Term.{Term}
 use Rattle.vocabulary.specs.declared.term.Fact.{Fact}
+use Rattle.vocabulary.specs.Lists.{In}
 use Rattle.dllite_axioms.specs.declared.axioms.Axiom.{Axiom}
 use Rattle.dllite_axioms.specs.Chase.{AreKnown}
 use Rattle.queries.specs.declared.query.Arg.{Arg}
@@ -13,7 +14,11 @@ use Rattle.queries.specs.Occurrences.{KnownConstants, HeadStands}
 use Rattle.certain_semantics.specs.Certain.{IsCertain}
 use Rattle.certain_semantics.specs.Witnesses.{Held}
 use Rattle.perfect_rewriting.specs.Reach.{Reach}
-use Rattle.perfect_rewriting.specs.Steps.{RuleStep}
+use Rattle.perfect_rewriting.specs.Steps.{Replaces, RuleStep, replaced_by}
+
+-- an atom may be replaced by another exactly where some axiom makes the other of it
+abbrev pub ReplacementIsComputed : Type 0
+ReplacementIsComputed = (axioms : List Axiom) (a b : Atom) → Replaces axioms a b ↔ ((ax : Axiom) × In ax axioms × (replaced_by ax a ≡ Some b))
 
 -- what a rule step gives holds only where what it took holds
 abbrev pub RuleStepIsSound : Type 0

@@ -1,5 +1,10 @@
 //! The laws of the rewriting. Each function's clause is the law; the bodies do nothing.
-ghost use Rattle.perfect_rewriting.specs.Laws.{ReachIsExact, ReachKeepsHeads, RuleStepIsSound, UnifyStepIsSound};
+ghost use Rattle.perfect_rewriting.specs.Laws.{ReachIsExact, ReachKeepsHeads, ReplacementIsComputed, RuleStepIsSound, UnifyStepIsSound};
+
+/// The atoms by which axioms let an atom be replaced are those that `replace_atom` gives.
+pub fn replacement_is_computed()
+    ensures { ReplacementIsComputed }
+{}
 
 /// A match of what a rule step gives is a match of what it took.
 pub fn rule_is_sound()

@@ -2,3 +2,6 @@
 #![tactic(auto)]
 
 pub mod laws;
+mod replacement;
+
+pub use replacement::replace_atom;
