@@ -1,0 +1,8 @@
+pub mod Complete
+pub mod Exact
+pub mod Heads
+pub mod NormalForm
+pub mod Replacing
+pub mod Rewriting
+mod Samples
+pub mod Sound
