@@ -1,2 +1,5 @@
 mod Afters
 mod Cuts
+mod Gathers
+mod Listing
+mod Noting

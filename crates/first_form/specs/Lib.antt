@@ -4,3 +4,7 @@ pub mod Kinds
 pub mod Form
 pub mod Project
 pub mod Seen
+pub mod Rows
+pub mod SeenRows
+pub mod Objects
+pub mod Texts

@@ -3,7 +3,13 @@
 
 mod form;
 mod lines;
+mod objects;
 mod pieces;
 mod project;
+mod rows;
+mod texts;
 
+pub use objects::{Object, Times, objects_of};
 pub use project::{Form, Model, Notes, Source, read_form};
+pub use rows::{Row, RowsFault, read_rows};
+pub use texts::{log_of, report_of};

@@ -2,7 +2,8 @@
 ghost use Rattle.std.specs.Prelude.{◌≡◌, ◌≤◌, take, drop, length};
 ghost use Rattle.std.specs.List.{prefix_len};
 ghost use Rattle.std.specs.Option.{option_map};
-ghost use Rattle.first_form.specs.Pieces.{after, ended, ends_reserved, in_iri, in_line, in_word, is_digit, is_letter, is_name, is_quotable, is_reserved_byte, is_unreserved, name_of, not_empty, prefix_of, quotable_of, reserved_words};
+ghost use Rattle.first_form.specs.Pieces.{after, ended, ends_reserved, in_iri, in_line, in_word, is_digit, is_letter, is_name, is_quotable, is_reserved_byte, is_unreserved, name_of, prefix_of, quotable_of, reserved_words};
+ghost use Rattle.first_form.specs.Rows.{unreserved_of};
 ghost use Rattle.first_form.specs.Kinds.{passes};
 ghost use Rattle.std.specs.List.{list_any};
 ghost use Rattle.std.specs.Str.{bytes_eq};
@@ -37,7 +38,7 @@ fn is_letter(b: u8) -> bool
     (65 <= b && b <= 90) || (97 <= b && b <= 122)
 }
 
-fn is_digit(b: u8) -> bool
+pub(crate) fn is_digit(b: u8) -> bool
     ensures { result ≡ is_digit b }
 {
     48 <= b && b <= 57
@@ -170,4 +171,10 @@ pub(crate) fn prefix_of(line: &[u8]) -> Option<(&[u8], &[u8])>
     } else {
         None
     }
+}
+
+pub(crate) fn unreserved_of(line: &[u8]) -> Option<(&[u8], &[u8])>
+    ensures { option_map (λ x. (x.0.now, x.1.now)) result ≡ unreserved_of line.now }
+{
+    Some(split_run(Kind::Unreserved, line))
 }
