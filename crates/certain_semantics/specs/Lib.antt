@@ -1,0 +1,3 @@
+pub mod Certain
+pub mod Laws
+pub mod Witnesses

@@ -1,0 +1,4 @@
+//! Certain answers: what a query asks of the chase.
+#![tactic(auto)]
+
+pub mod laws;

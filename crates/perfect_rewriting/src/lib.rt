@@ -1,0 +1,4 @@
+//! The rewriting of queries under axioms.
+#![tactic(auto)]
+
+pub mod laws;

@@ -1,0 +1,6 @@
+mod Comparing
+pub mod Ordered
+mod Placing
+mod Samples
+pub mod Settling
+mod Terms

@@ -1,0 +1,7 @@
+-- The arguments so far.
+use Rattle.std.proofs.Common.{◌≡◌, map, take}
+use Rattle.queries.specs.Changes.{Put, changed}
+use Rattle.queries.proofs.replace.replace_in_args.Given as goal
+
+abbrev pub invariant-loop-x : goal.invariant-loop-x
+invariant-loop-x l = l.out.items ≡ map (changed (Put l.var l.by)) (take l.x-index l.args)

@@ -1,0 +1,6 @@
+pub mod Changes
+pub mod Laws
+pub mod Matches
+pub mod Normal
+pub mod Occurrences
+pub mod Order
