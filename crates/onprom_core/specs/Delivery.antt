@@ -1,0 +1,94 @@
+-- What was written of an ending.
+use Rattle.std.specs.Prelude.{◌≡◌, ◌≢◌, ◌⊎◌, ℕ, List, [], Option, Result, Ok, Err, Contains}
+use Rattle.outside.specs.Counts.{Rose}
+use Rattle.onprom_core.specs.declared.halt.Stopped.{Stopped}
+use Rattle.std.specs.Io.KnownBytes.{Appends, Keeps}
+use Rattle.outside.specs.Written.{AppendsFront}
+use Rattle.onprom_core.specs.declared.status.Status.{Status}
+use Rattle.onprom_core.specs.declared.status.Status.TheVariants as status
+use Rattle.onprom_core.specs.Causes.{IsWhole, NamesFault}
+use Rattle.onprom_core.specs.Lines.{fault_line}
+use Rattle.onprom_core.specs.Walk.{Ending, Files, Job, IsFirstEnd, walk}
+
+-- all of it, a front of its text, or its text and a front of its report
+pub record Delivers (e : Ending) (out out' report report' : Option (List ℕ)) (result : Status) : Type 0 where
+  pub whole : IsWhole result → (result ≡ e.status) × Appends out out' e.out × Appends report report' e.report
+  pub write_fault : result ≡ status.WriteFault → AppendsFront out out' e.out × Keeps report report'
+  pub report_fault : result ≡ status.ReportFault → Appends out out' e.out × AppendsFront report report' e.report
+  pub no_memory : result ≡ status.NoMemory → (AppendsFront out out' e.out × Keeps report report') ⊎ (Appends out out' e.out × AppendsFront report report' e.report)
+
+-- an ending that a run may come to before it writes: the first end, or a fault of the shelf at a file that the walk begins
+pub record IsDecided (words : List (List ℕ)) (files : Files) (faults faults' : ℕ) (e : Ending) : Type 0 where
+  pub first : e.status ≢ status.ReadFault → IsFirstEnd words files e
+  pub fault : e.status ≡ status.ReadFault → Rose faults faults' × NamesFault (walk words files).begun e.report
+  pub silent : e.status ≢ status.Done → e.out ≡ []
+
+-- all of its text, and a front of its report
+pub record EndsReporting (words : List (List ℕ)) (files : Files) (faults faults' : ℕ) (written written' reported reported' : Option (List ℕ)) : Type 0 where
+  pub ending : Ending
+  pub decided : IsDecided words files faults faults' ending
+  pub out : Appends written written' ending.out
+  pub report : AppendsFront reported reported' ending.report
+
+-- a front of the text of the ending
+pub record EndsWithin (words : List (List ℕ)) (files : Files) (faults faults' : ℕ) (written written' : Option (List ℕ)) : Type 0 where
+  pub ending : Ending
+  pub decided : IsDecided words files faults faults' ending
+  pub out : AppendsFront written written' ending.out
+
+-- nothing, or a front of its text, or its text and a front of its report
+abbrev pub EndsEarly : List (List ℕ) → Files → ℕ → ℕ → Option (List ℕ) → Option (List ℕ) → Option (List ℕ) → Option (List ℕ) → Type 0
+EndsEarly words files faults faults' written written' reported reported' =
+    (Keeps written written' × Keeps reported reported')
+    ⊎ (EndsWithin words files faults faults' written written' × Keeps reported reported')
+    ⊎ EndsReporting words files faults faults' written written' reported reported'
+
+-- the line of a read fault names a file that the walk begins
+abbrev pub ReportsFault : List (List ℕ) → Option (List ℕ) → Option (List ℕ) → Type 0
+ReportsFault begun reported reported' = (name : List ℕ) × Contains begun name × Appends reported reported' (fault_line name)
+
+-- the report grew by this line of some file
+abbrev pub NamesFile : (List ℕ → List ℕ) → Option (List ℕ) → Option (List ℕ) → Type 0
+NamesFile line reported reported' = (name : List ℕ) × Appends reported reported' (line name)
+
+-- what a run wrote of its first end, where it was not cut short
+pub record EndsAs (words : List (List ℕ)) (files : Files) (written written' reported reported' : Option (List ℕ)) (result : Status) : Type 0 where
+  pub ending : Ending
+  pub first : IsFirstEnd words files ending
+  pub status : result ≡ ending.status
+  pub out : Appends written written' ending.out
+  pub report : Appends reported reported' ending.report
+
+-- the statuses that come only with an unchanged output
+abbrev pub KeepsOut : Status → Option (List ℕ) → Option (List ℕ) → Type 0
+KeepsOut status.Done old new = Unit {0}
+KeepsOut status.WriteFault old new = Unit {0}
+KeepsOut status.ReportFault old new = Unit {0}
+KeepsOut status.NoMemory old new = Unit {0}
+KeepsOut status.Conflict old new = Keeps old new
+KeepsOut status.Usage old new = Keeps old new
+KeepsOut status.Refused old new = Keeps old new
+KeepsOut status.Absent old new = Keeps old new
+KeepsOut status.ReadFault old new = Keeps old new
+KeepsOut status.Limit old new = Keeps old new
+KeepsOut status.NotAccepted old new = Keeps old new
+
+-- where the walk comes to its job and no count of faults rises, the job is done, unless memory is short
+abbrev pub Completes : Result Job Stopped → (faults faults' written written' reported reported' : ℕ) → Status → Type 0
+Completes (Err stopped) faults faults' written written' reported reported' result = Unit {0}
+Completes (Ok job) faults faults' written written' reported reported' result =
+    (Rose faults faults' → ⊥) → (Rose written written' → ⊥) → (Rose reported reported' → ⊥) → (result ≡ status.Done) ⊎ (result ≡ status.NoMemory)
+
+-- Usage, unless the report fails or memory is short
+abbrev pub AnswersNoCommand : Status → Type 0
+AnswersNoCommand status.Usage = Unit {0}
+AnswersNoCommand status.ReportFault = Unit {0}
+AnswersNoCommand status.NoMemory = Unit {0}
+AnswersNoCommand status.Done = ⊥
+AnswersNoCommand status.Conflict = ⊥
+AnswersNoCommand status.Refused = ⊥
+AnswersNoCommand status.Absent = ⊥
+AnswersNoCommand status.ReadFault = ⊥
+AnswersNoCommand status.WriteFault = ⊥
+AnswersNoCommand status.Limit = ⊥
+AnswersNoCommand status.NotAccepted = ⊥

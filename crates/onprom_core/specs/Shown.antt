@@ -1,0 +1,6 @@
+-- What is decided, as an ending.
+use Rattle.onprom_core.specs.Walk.{Ending}
+use Rattle.onprom_core.specs.declared.deciding.Decided.{Decided}
+
+abbrev pub shown : Decided → Ending
+shown d = record { status = d.status; out = d.text.items; report = d.line }

@@ -1,0 +1,57 @@
+//! Deciding how a run ends, before anything is written.
+ghost use Rattle.std.specs.Prelude.{◌≡◌, ◌≢◌, [], IfOk, IfSome};
+ghost use Rattle.onprom_core.specs.Causes.{CountsEnd, IsWhole, SaysLine};
+ghost use Rattle.onprom_core.specs.Delivery.{IsDecided};
+ghost use Rattle.onprom_core.specs.Shown.{shown};
+ghost use Rattle.onprom_core.specs.Walk.{IsNoCommand};
+
+use crate::Status;
+use crate::halt::Halt;
+use crate::lines::named_line;
+use crate::reading::work;
+use outside::{Bytes, Shelf, Words};
+use std::alloc::{AllocError, Global};
+
+/// A status, with what is to be written for it.
+#[derive(Drop)]
+pub(crate) struct Decided {
+    pub status: Status,
+    pub text: Vec<u8>,
+    pub line: Bytes,
+}
+
+/// Reads, and does the job.
+pub(crate) fn decide<S: Shelf>(
+    alloc: Global,
+    words: &Words,
+    shelf: &mut S,
+) -> Result<Decided, AllocError>
+    ensures decided { IfOk result (λ d. IfSome (S.held shelf.old) (λ files.
+        IsDecided words.now files (S.faults shelf.old) (S.faults shelf.new) (shown d))) }
+    ensures usage { IfOk result (λ d. d.status ≡ Status.Usage → IsNoCommand words.now) }
+    ensures no_command { IsNoCommand words.now → IfOk result (λ d. d.status ≡ Status.Usage) }
+    ensures whole { IfOk result (λ d. IsWhole d.status) }
+    ensures line { IfOk result (λ d. SaysLine d.status d.line) }
+    ensures silent { IfOk result (λ d. d.status ≢ Status.Done → d.text.items ≡ []) }
+    ensures counts { IfOk result (λ d. CountsEnd (S.faults shelf.old) (S.faults shelf.new)
+        (S.absences shelf.old) (S.absences shelf.new) d.status) }
+{
+    match work(alloc, words, shelf) {
+        Ok(output) => Ok(Decided {
+            status: Status::Done,
+            text: output.text,
+            line: output.report,
+        }),
+        Err(Halt::Stopped(stopped)) => Ok(Decided {
+            status: stopped.status,
+            text: Vec::new(alloc),
+            line: stopped.line,
+        }),
+        Err(Halt::ReadFault(name)) => Ok(Decided {
+            status: Status::ReadFault,
+            text: Vec::new(alloc),
+            line: named_line(alloc, b"read fault: ", name.slice(), b"\n")?,
+        }),
+        Err(Halt::NoMemory) => Err(AllocError),
+    }
+}

@@ -1,0 +1,71 @@
+//! The top call.
+ghost use Rattle.std.specs.Prelude.{◌≡◌, ◌≢◌, ◌⊎◌, ℕ, List, IsTrue, IfSome};
+ghost use Rattle.std.specs.Io.KnownBytes.{Appends, Keeps};
+ghost use Rattle.outside.specs.Counts.{Rose};
+ghost use Rattle.onprom_core.specs.Causes.{IsWhole};
+ghost use Rattle.onprom_core.specs.Delivery.{EndsAs, EndsWithin, EndsReporting, EndsEarly, ReportsFault, NamesFile, KeepsOut, Completes, AnswersNoCommand};
+ghost use Rattle.onprom_core.specs.Lines.{absent_line, fault_line, usage_line};
+ghost use Rattle.onprom_core.specs.Walk.{walk, IsNoCommand};
+
+use crate::Status;
+use crate::deciding::decide;
+use crate::deliver::deliver;
+use outside::{Shelf, Sink, Words};
+use std::alloc::{AllocError, Global};
+
+/// Runs the command that the words name: it reads from `shelf`, writes the text to `out`, and then its
+/// line or its report to `report`.
+///
+/// The clauses under `IfSome (S.held ..)` speak of a shelf that tells its files; those that follow hold
+/// of every shelf.
+pub fn run<S: Shelf, O: Sink, R: Sink>(
+    alloc: Global,
+    words: &Words,
+    shelf: &mut S,
+    out: &mut O,
+    report: &mut R,
+) -> Status
+    // Where no call failed and memory sufficed, the first end of the walk was written.
+    ensures ends { IfSome (S.held shelf.old) (λ files. result ≢ Status.ReadFault → IsWhole result →
+        EndsAs words.now files (O.written out.old) (O.written out.new) (R.written report.old) (R.written report.new) result) }
+    // After a failed write a front of the text stands.
+    ensures written { IfSome (S.held shelf.old) (λ files. result ≡ Status.WriteFault →
+        EndsWithin words.now files (S.faults shelf.old) (S.faults shelf.new) (O.written out.old) (O.written out.new)) }
+    // A read fault names a file that the walk begins.
+    ensures faulted { IfSome (S.held shelf.old) (λ files. result ≡ Status.ReadFault →
+        ReportsFault (walk words.now files).begun (R.written report.old) (R.written report.new)) }
+    // After a failed report the text stands whole, and a front of the report.
+    ensures reporting { IfSome (S.held shelf.old) (λ files. result ≡ Status.ReportFault →
+        EndsReporting words.now files (S.faults shelf.old) (S.faults shelf.new)
+        (O.written out.old) (O.written out.new) (R.written report.old) (R.written report.new)) }
+    // For want of memory nothing stands, or a front of the text, or the text and a front of the report.
+    ensures early { IfSome (S.held shelf.old) (λ files. result ≡ Status.NoMemory →
+        EndsEarly words.now files (S.faults shelf.old) (S.faults shelf.new)
+        (O.written out.old) (O.written out.new) (R.written report.old) (R.written report.new)) }
+    // Where the walk comes to its job and no count of faults rises, the job is done, unless memory is short.
+    ensures complete { IfSome (S.held shelf.old) (λ files. Completes (walk words.now files).end
+        (S.faults shelf.old) (S.faults shelf.new) (O.faults out.old) (O.faults out.new)
+        (R.faults report.old) (R.faults report.new) result) }
+    ensures kept { KeepsOut result (O.written out.old) (O.written out.new) }
+    ensures report_kept { result ≡ Status.WriteFault → Keeps (R.written report.old) (R.written report.new) }
+    ensures usage { result ≡ Status.Usage → IsNoCommand words.now }
+    ensures usage_line { result ≡ Status.Usage → Appends (R.written report.old) (R.written report.new) usage_line }
+    ensures no_command { IsNoCommand words.now → AnswersNoCommand result }
+    ensures absent { result ≡ Status.Absent → Rose (S.absences shelf.old) (S.absences shelf.new) }
+    ensures absent_file { result ≡ Status.Absent → NamesFile absent_line (R.written report.old) (R.written report.new) }
+    ensures read { result ≡ Status.ReadFault → Rose (S.faults shelf.old) (S.faults shelf.new) }
+    ensures read_file { result ≡ Status.ReadFault → NamesFile fault_line (R.written report.old) (R.written report.new) }
+    ensures write { result ≡ Status.WriteFault → Rose (O.faults out.old) (O.faults out.new) }
+    ensures report { result ≡ Status.ReportFault → Rose (R.faults report.old) (R.faults report.new) }
+    // No failed call goes without its status.
+    ensures shelf_same { result ≢ Status.ReadFault → IsWhole result → S.faults shelf.new ≡ S.faults shelf.old }
+    ensures shelf_written { result ≡ Status.WriteFault → S.faults shelf.new ≡ S.faults shelf.old }
+    ensures absences_same { result ≢ Status.Absent → IsWhole result → S.absences shelf.new ≡ S.absences shelf.old }
+    ensures out_same { result ≢ Status.WriteFault → O.faults out.new ≡ O.faults out.old }
+    ensures report_same { result ≢ Status.ReportFault → R.faults report.new ≡ R.faults report.old }
+{
+    match decide(alloc, words, shelf) {
+        Ok(decided) => deliver(&decided, out, report),
+        Err(AllocError) => Status::NoMemory,
+    }
+}
