@@ -1,0 +1,6 @@
+//! Annotations of a class model: what its cases and events are, and their attributes.
+#![tactic(auto)]
+
+mod notes;
+
+pub use notes::{Annotations, EventNote, KeyNote, KeySource, NamedQuery, Rule};

@@ -1,0 +1,3 @@
+pub mod OneLog
+mod Samples
+mod SmallLog
