@@ -1,7 +1,22 @@
 //! The values of cells: what a text says as a time, a number, a truth value or a text, and the one text
 //! that each value is written as.
+//!
+//! A cell text has one value or none, and nothing here takes memory. Two cells are equal exactly where
+//! their canonical texts are, and canonical times stand in the byte order of their instants.
 #![tactic(auto)]
 
+mod clock;
+mod day;
+mod number;
+mod offset;
+mod text;
+mod time;
+mod time_text;
 mod truth;
 
+pub use number::{read_int, write_int};
+pub use offset::read_offset;
+pub use text::is_text;
+pub use time::{Millis, read_time};
+pub use time_text::write_time;
 pub use truth::read_bool;
