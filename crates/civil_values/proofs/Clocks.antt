@@ -1,15 +1,15 @@
 -- The readers of times of day give what `IsClock` says, and what stands behind.
-use Rattle.std.proofs.Common.{◌≡◌, ◌∙◌, sym, refl, ap, ℕ, zero, suc, ◌+◌, ◌-◌, ◌*◌, ◌/◌, ◌%◌, ◌<◌, ◌≤◌, ◌≢◌, Bool, true, false, ◌&&◌, ◌==◌, if◌then◌else◌, nat_lt, nat_le, List, [], ◌∷◌, ◌++◌, length, slice_index, get_or, take, drop, Option, Some, None, IfSome, arith, inl, inr}
+use Rattle.std.proofs.Common.{◌≡◌, sym, refl, ap, ℕ, suc, ◌+◌, ◌-◌, ◌*◌, ◌<◌, ◌≤◌, ◌≢◌, false, ◌&&◌, ◌==◌, if◌then◌else◌, nat_lt, nat_le, List, [], ◌∷◌, ◌++◌, length, slice_index, get_or, take, drop, Option, Some, None, arith, inl, inr}
 use Rattle.std.specs.List.{All, prefix_len}
 use Rattle.std.specs.Char.{is_ascii_digit}
-use Rattle.std.proofs.lemmas.Bool.{cases_Bool, cases_lt, and_parts, and_from, le-leb, leb-true, lt-ltb, ltb-true, eqb-true, eq-eqb, ne_eqb}
+use Rattle.std.proofs.lemmas.Bool.{cases_Bool, cases_lt, and_parts, and_from, le-leb, leb-true, lt-ltb, ltb-true, eqb-true, ne_eqb}
 use Rattle.std.proofs.lemmas.List.{take-append-drop, get_or-take, get_or_past}
-use Rattle.std.proofs.lemmas.List.Sums.{prefix_len_passes, prefix_len-le-length}
+use Rattle.std.proofs.lemmas.List.Sums.{prefix_len_passes}
 use Rattle.std.proofs.lemmas.List.Folds.{length-prefix_len}
 use Rattle.std.proofs.Math.Seq.{take-append_seam, drop-append_seam}
 use Rattle.civil_values.specs.Times.{two, kept, IsDigit, IsFraction, IsSeconds, IsClock}
 use Rattle.civil_values.specs.TimeReader.{◌>>=◌, two_of, fraction_of, seconds_of, clock_of}
-use Rattle.civil_values.proofs.Digits.{Went, went, passed, some_same, two_of-two, AreDigits, digits_of_two, is_two, is_digit, digit_bounds}
+use Rattle.civil_values.proofs.Digits.{went, passed, some_same, two_of-two, digits_of_two, is_digit, digit_bounds}
 
 -- a text begins with a part that P says is so many milliseconds
 pub record Begins (P : List ℕ → ℕ → Type 0) (text : List ℕ) (ms : ℕ) (rest : List ℕ) : Type 0 where

@@ -1,17 +1,15 @@
 -- The reader of moments gives what `IsMoment` says.
-use Rattle.std.proofs.Common.{◌≡◌, ◌∙◌, sym, refl, ap, ℕ, zero, suc, ◌+◌, ◌-◌, ◌*◌, ◌/◌, ◌%◌, ◌<◌, ◌≤◌, ◌≢◌, Bool, true, false, ◌&&◌, ◌||◌, ◌==◌, if◌then◌else◌, nat_lt, nat_le, ℤ, pos, neg_ℤ, List, [], ◌∷◌, ◌++◌, length, slice_index, get_or, take, drop, Option, Some, None, IfSome, arith, inl, inr, ◌⊎◌, subst, option_map, length-take, length-drop, ◌*ℤ◌, ◌+ℤ◌, ◌-ℤ◌}
-use Rattle.std.specs.Int.{IsInRange}
-use Rattle.std.specs.Char.{is_ascii_digit}
-use Rattle.std.proofs.lemmas.Bool.{cases_Bool, and_parts, and_from, or_cases, or_left, or_right, le-leb, leb-true, lt-ltb, ltb-true, eqb-true, eq-eqb, ne_eqb}
+use Rattle.std.proofs.Common.{◌≡◌, ◌∙◌, sym, refl, ap, ℕ, ◌+◌, ◌-◌, ◌*◌, ◌/◌, ◌%◌, ◌<◌, ◌≤◌, true, false, ◌&&◌, ◌||◌, ◌==◌, nat_le, ℤ, pos, List, [], ◌∷◌, ◌++◌, length, slice_index, get_or, take, drop, Option, Some, None, arith, inl, inr, ◌⊎◌, subst, option_map, length-take, length-drop, ◌*ℤ◌, ◌+ℤ◌, ◌-ℤ◌}
+use Rattle.std.proofs.lemmas.Bool.{and_parts, or_cases, le-leb, leb-true, eqb-true, ne_eqb}
 use Rattle.std.proofs.lemmas.List.{take-append-drop, append-nil, take_all}
-use Rattle.std.proofs.lemmas.Slice.Eq.{text_from_reads, HasBytesAt}
+use Rattle.std.proofs.lemmas.Slice.Eq.{text_from_reads}
 use Rattle.jiff_core.specs.Calendar.{days_in_month}
 use Rattle.jiff_core.proofs.CalendarLemmas.{days_in_month_bounds}
-use Rattle.civil_values.specs.Times.{two, CivilDay, IsDayTo, day_text, day_number, Moment, instant, IsClock, IsSigned, IsSpan, IsOffset, IsMark, IsAfterDay, IsMoment}
-use Rattle.civil_values.specs.TimeReader.{◌>>=◌, two_of, is_day_to, read_date, day_of, clock_of, offset_of, zone_of, placed_of, is_mark, after_day, moment_of}
-use Rattle.civil_values.proofs.Digits.{Went, went, passed, some_same, two_of-two, AreDigits, digits_of_two, is_two}
+use Rattle.civil_values.specs.Times.{two, CivilDay, IsDayTo, day_text, day_number, Moment, instant, IsClock, IsSigned, IsOffset, IsMark, IsAfterDay, IsMoment}
+use Rattle.civil_values.specs.TimeReader.{◌>>=◌, two_of, is_day_to, read_date, day_of, clock_of, zone_of, placed_of, is_mark, after_day, moment_of}
+use Rattle.civil_values.proofs.Digits.{went, passed, some_same, two_of-two, AreDigits, digits_of_two}
 use Rattle.civil_values.proofs.Offsets.{offset_of-sound, offset_of-complete}
-use Rattle.civil_values.proofs.Clocks.{Begins, Stops, clock_sound, clock_complete}
+use Rattle.civil_values.proofs.Clocks.{Stops, clock_sound, clock_complete}
 
 pub is_day_to-sound : (last : ℕ) (date : CivilDay) → is_day_to last date ≡ true → IsDayTo last date
 is_day_to-sound last date e =

@@ -1,10 +1,10 @@
 -- The reader of offsets gives what `IsOffset` says.
-use Rattle.std.proofs.Common.{◌≡◌, ◌∙◌, sym, refl, ap, ℕ, suc, ◌+◌, ◌-◌, ◌*◌, ◌/◌, ◌%◌, ◌<◌, ◌≤◌, Bool, true, false, ◌&&◌, ◌||◌, ◌==◌, if◌then◌else◌, nat_lt, nat_le, ℤ, pos, neg_ℤ, List, [], ◌∷◌, ◌++◌, length, slice_index, Option, Some, None, IfSome, arith, inl, inr}
-use Rattle.std.proofs.lemmas.Bool.{cases_Bool, and_parts, and_from, or_cases, le-leb, leb-true, lt-ltb, ltb-true, eqb-true, eq-eqb}
+use Rattle.std.proofs.Common.{◌≡◌, sym, refl, ℕ, ◌+◌, ◌*◌, ◌<◌, ◌≤◌, false, ◌&&◌, ◌||◌, ◌==◌, if◌then◌else◌, nat_lt, nat_le, ℤ, pos, neg_ℤ, List, [], ◌∷◌, ◌++◌, length, Option, Some, None, IfSome, arith, inl, inr}
+use Rattle.std.proofs.lemmas.Bool.{cases_Bool, and_parts, and_from, or_cases, le-leb, leb-true, lt-ltb, ltb-true, eqb-true}
 use Rattle.std.proofs.lemmas.Bool.Decides.{nat_tests}
 use Rattle.civil_values.specs.Times.{two, IsSigned, IsSpan, IsOffset}
 use Rattle.civil_values.specs.TimeReader.{◌>>=◌, two_of, signed_of, span_of, offset_of}
-use Rattle.civil_values.proofs.Digits.{Went, went, passed, some_same, two_of-two, AreDigits, digits_of_two, is_two}
+use Rattle.civil_values.proofs.Digits.{went, passed, some_same, two_of-two, digits_of_two, is_two}
 
 signed_of-sound : (sign n : ℕ) (z : ℤ) → signed_of sign n ≡ Some z → IsSigned sign n z
 signed_of-sound sign n z e = elim (cases_Bool (sign == 43)) [

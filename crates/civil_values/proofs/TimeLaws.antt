@@ -1,20 +1,19 @@
 -- An instant has one text, and the reader's canonical text is it.
-use Rattle.std.proofs.Common.{◌≡◌, ◌∙◌, sym, refl, ap, subst, ℕ, ◌+◌, ◌-◌, ◌*◌, ◌<◌, ◌≤◌, Bool, true, false, nat_le, ℤ, pos, neg_ℤ, ◌+ℤ◌, ◌-ℤ◌, ◌*ℤ◌, ◌≤ℤ◌, ◌<ℤ◌, List, Option, Some, None, option_map, arith, inl, inr, ◌⊎◌}
-use Rattle.std.proofs.lemmas.Bool.{cases_Bool, cases_lt, le-leb, lt-leb}
+use Rattle.std.proofs.Common.{◌≡◌, ◌∙◌, sym, refl, ap, subst, ℕ, ◌<◌, ◌≤◌, nat_le, ℤ, pos, ◌-ℤ◌, ◌*ℤ◌, ◌≤ℤ◌, ◌<ℤ◌, List, Some, None, option_map, arith, inl, inr, ◌⊎◌}
+use Rattle.std.proofs.lemmas.Bool.{cases_lt, le-leb, lt-leb, leb-true}
 use Rattle.jiff_core.specs.declared.civil.date.Date.{Date}
-use Rattle.jiff_core.specs.Date.{epoch_day}
-use Rattle.jiff_core.specs.Calendar.{IsWithin, IsCivilDate}
+use Rattle.jiff_core.specs.Calendar.{IsWithin}
 use Rattle.jiff_core.proofs.SignedLemmas.{signed_arith}
 use Rattle.jiff_core.proofs.DateLemmas.{epoch_day_injective}
-use Rattle.civil_values.specs.Times.{CivilDay, IsDayTo, day_number, Moment, instant, first_instant, end_instant, IsSigned, IsOffset, IsAfterDay, IsMoment, IsTime, utc_text, IsTimeText}
-use Rattle.civil_values.specs.TimeReader.{◌>>=◌, at_milliseconds, in_utc, moment_text, moment_of, time_canonical}
-use Rattle.civil_values.proofs.Digits.{some_same}
+use Rattle.civil_values.specs.Times.{CivilDay, IsDayTo, day_number, Moment, instant, first_instant, end_instant, IsSigned, IsOffset, IsAfterDay, IsMoment, IsTime, utc_text, IsTimeText, IsWritable}
+use Rattle.civil_values.specs.TimeReader.{in_utc, moment_text, moment_of, time_canonical}
+use Rattle.civil_values.proofs.Digits.{some_same, went, passed}
 use Rattle.civil_values.proofs.Clocks.{clock_small}
 use Rattle.civil_values.proofs.Calendar.{civil_date, low_day, high_day, IsAt, IsYearZero, at_milliseconds-is}
-use Rattle.civil_values.proofs.Moments.{moment_sound, moment_complete, Mapped, mapped, none_mapped}
+use Rattle.civil_values.proofs.Moments.{moment_sound, moment_complete, mapped, none_mapped}
 
 -- the same day as jiff has it
-pub date_of : (last : ℕ) (date : CivilDay) → last ≤ 9999 → IsDayTo last date → Date
+unfoldable pub date_of : (last : ℕ) (date : CivilDay) → last ≤ 9999 → IsDayTo last date → Date
 date_of last date most h =
     let c = civil_date last date most h in
     record { year = pos date.year; month = date.month; day = date.day; year_in = c.0; month_in = c.1; day_in = c.2 }
@@ -102,6 +101,38 @@ canonical_none given text m g h early =
           absurd (omega (arith, signed_arith, range.0))
       | inr zero_year ↦ rw (lt-leb 1 (in_utc m).0.year (omega arith)) refl
     ]
+
+-- a time is an instant of the years 0001 to 9999
+pub time_range : (given : ℤ) (text : List ℕ) (ms : ℤ) → IsWithin 840 given → IsTime given text ms → IsWritable ms
+time_range given text ms g t =
+    let m : Moment = t.moment in
+    let at = utc_is given text m g t.spells in
+    let late : first_instant ≤ℤ instant m = rw (← t.number) t.late in
+    let some : 1 ≤ (in_utc m).0.year = elim (cases_lt 0 (in_utc m).0.year) [
+      | inl later ↦ omega arith
+      | inr zero_year ↦ absurd (too_early m (in_utc m) at (omega arith) late)
+    ] in
+    rw t.number (text_range (instant m) (utc_text (in_utc m).0 (in_utc m).1) (utc_text-is m (in_utc m) at some))
+
+moment_text-is : (given : ℤ) (text : List ℕ) (m : Moment) (written : List ℕ) → IsWithin 840 given → IsMoment given text m → moment_text m ≡ Some written → IsTimeText (instant m) written
+moment_text-is given text m written g spells e =
+    let at = utc_is given text m g spells in
+    let p = passed (nat_le 1 (in_utc m).0.year) (Some (utc_text (in_utc m).0 (in_utc m).1)) written e in
+    let same = some_same (utc_text (in_utc m).0 (in_utc m).1) written p.1 in
+    subst (λ (t : List ℕ). IsTimeText (instant m) t) same (utc_text-is m (in_utc m) at (leb-true 1 (in_utc m).0.year p.0))
+
+-- the canonical text of a text is that of its instant
+pub canonical_is : (given : ℤ) (text written : List ℕ) → IsWithin 840 given → time_canonical given text ≡ Some written → (ms : ℤ) × IsTime given text ms × IsTimeText ms written
+canonical_is given text written g e =
+    let w = went (moment_of given text) moment_text written e in
+    let spells = moment_sound given text w.value w.was in
+    let is = moment_text-is given text w.value written g spells w.gives in
+    (instant w.value, record { moment = w.value; spells = spells; number = refl; late = (text_range (instant w.value) written is).0 }, is)
+
+pub canonical_from : (given : ℤ) (text written : List ℕ) (ms : ℤ) → IsWithin 840 given → IsTime given text ms → IsTimeText ms written → time_canonical given text ≡ Some written
+canonical_from given text written ms g t is =
+    let w : IsTimeText (instant t.moment) written = rw (← t.number) is in
+    rw (moment_complete given text t.moment t.spells) (canonical_some given text t.moment written g t.spells w)
 
 -- what the reader gives, where it gives a moment or none
 pub time_none : (given : ℤ) (text : List ℕ) → None ≡ option_map instant (moment_of given text) → (ms : ℤ) → IsTime given text ms → ⊥

@@ -1,5 +1,5 @@
 -- Decimal digits that are written from the last to the first.
-use Rattle.std.proofs.Common.{◌≡◌, ◌∙◌, sym, refl, ap, ℕ, zero, suc, ◌+◌, ◌-◌, ◌*◌, ◌/◌, ◌%◌, ◌<◌, ◌≤◌, ◌^◌, Bool, true, false, List, [], ◌∷◌, length, drop, take, ◌++◌, set, ℤ, pos, negsuc, nat_abs, ◌<ℤ◌, arith, inl, inr, add-one}
+use Rattle.std.proofs.Common.{◌≡◌, ◌∙◌, sym, refl, ap, ℕ, suc, ◌+◌, ◌-◌, ◌*◌, ◌/◌, ◌%◌, ◌<◌, ◌≤◌, ◌^◌, false, List, [], ◌∷◌, length, drop, take, ◌++◌, set, ℤ, pos, negsuc, nat_abs, ◌<ℤ◌, arith, inl, inr, add-one}
 use Rattle.std.specs.Fmt.{decimal, digits, digits_onto}
 use Rattle.std.proofs.Math.Nat.{pow-suc}
 use Rattle.std.proofs.lemmas.List.{drop-set, drop_all}

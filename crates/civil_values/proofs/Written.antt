@@ -1,15 +1,15 @@
 -- The text of an instant by the day and the time of day that jiff gives.
-use Rattle.std.proofs.Common.{◌≡◌, ◌∙◌, sym, refl, ap, subst, ℕ, suc, ◌+◌, ◌*◌, ◌<◌, ◌≤◌, ℤ, pos, negsuc, neg_ℤ, nat_abs, ◌+ℤ◌, ◌-ℤ◌, ◌*ℤ◌, ◌≤ℤ◌, ◌<ℤ◌, arith, inl, inr, Fits, w32, T}
+use Rattle.std.proofs.Common.{◌≡◌, ◌∙◌, sym, refl, ap, subst, ℕ, ℤ, pos, negsuc, neg_ℤ, nat_abs, ◌≤ℤ◌, ◌<ℤ◌, arith, Fits, w32, T}
 use Rattle.std.specs.Int.{IsInRange, int_div_euclid, int_rem_euclid}
 use lib.Signed.{non_neg}
 use Rattle.std.proofs.lemmas.Int.{by_lt_z}
 use Rattle.jiff_core.specs.declared.civil.date.Date.{Date}
 use Rattle.jiff_core.specs.Date.{epoch_day}
-use Rattle.jiff_core.specs.Calendar.{days_from_civil, days_in_month, day_count}
+use Rattle.jiff_core.specs.Calendar.{days_from_civil, days_in_month}
 use Rattle.jiff_core.proofs.SignedLemmas.{signed_arith}
 use Rattle.jiff_core.proofs.CalendarLemmas.{days_from_civil-day_count, day_count-lt_year}
 use Rattle.jiff_core.proofs.DateLemmas.{civil}
-use Rattle.civil_values.specs.Times.{CivilDay, IsDayTo, first_instant, end_instant, utc_text, IsTimeText}
+use Rattle.civil_values.specs.Times.{first_instant, end_instant, utc_text, IsTimeText}
 use Rattle.civil_values.proofs.Calendar.{first_number}
 
 -- a day at or after 0001-01-01 is one of a year from 1 on

@@ -7,6 +7,7 @@
 
 mod clock;
 mod day;
+mod laws;
 mod number;
 mod offset;
 mod text;
@@ -14,9 +15,13 @@ mod time;
 mod time_text;
 mod truth;
 
+pub use laws::{int_texts_are_apart, time_canonical_is_exact, time_texts_are_ordered};
 pub use number::{read_int, write_int};
 pub use offset::read_offset;
 pub use text::is_text;
 pub use time::{Millis, read_time};
 pub use time_text::write_time;
 pub use truth::read_bool;
+
+#[cfg(test)]
+mod tests;

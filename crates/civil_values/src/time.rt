@@ -1,7 +1,7 @@
 // Times: a day, and a time of day with an offset behind it.
 ghost use Rattle.std.specs.Prelude.{◌≡◌, ◌<◌, ℕ, ℤ, List, IfSome, IfNone, option_map, None, Some, MatchOption};
 ghost use Rattle.jiff_core.specs.Calendar.{IsWithin};
-ghost use Rattle.civil_values.specs.Times.{IsTime, IsTimeText, instant};
+ghost use Rattle.civil_values.specs.Times.{IsTime, IsTimeText, IsWritable, instant};
 ghost use Rattle.civil_values.specs.TimeReader.{after_day, is_mark, placed_of, zone_of, moment_of, time_canonical};
 
 use crate::clock::read_clock;
@@ -90,6 +90,7 @@ fn read_instant(text: &[u8], given: i32) -> Option<i64>
 pub fn read_time(text: &str, offset: i32) -> Option<Millis>
     requires { IsWithin 840 offset }
     ensures found { IfSome result (λ at. IsTime offset text.now at.0) }
+    ensures writable { IfSome result (λ at. IsWritable at.0) }
     ensures none { IfNone result ((ms : ℤ) → IsTime offset text.now ms → ⊥) }
     ensures canonical { MatchOption result (time_canonical offset text.now ≡ None) (λ at. (written : List ℕ) → IsTimeText at.0 written → time_canonical offset text.now ≡ Some written) }
 {

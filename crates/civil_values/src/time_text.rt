@@ -1,6 +1,6 @@
 // The text that an instant is written as.
-ghost use Rattle.std.specs.Prelude.{◌≡◌, ◌<◌, ◌≤◌, ◌+◌, ◌/◌, ◌%◌, ◌<ℤ◌, ◌≤ℤ◌};
-ghost use Rattle.civil_values.specs.Times.{IsTimeText, first_instant, end_instant, utc_text};
+ghost use Rattle.std.specs.Prelude.{◌≡◌, ◌<◌, ◌≤◌, ◌+◌, ◌/◌, ◌%◌};
+ghost use Rattle.civil_values.specs.Times.{IsTimeText, IsWritable, utc_text};
 
 use crate::time::{DAY, Millis};
 use jiff_core::civil::Date;
@@ -66,8 +66,7 @@ fn utc(year: u32, month: u32, day: u32, clock: u32) -> [u8; 29]
 
 /// Writes an instant of the years 0001 to 9999 as `YYYY-MM-DDTHH:MM:SS.mmm+00:00`.
 pub fn write_time(at: Millis, buf: &mut [u8; 29])
-    requires first { first_instant ≤ℤ at.0 }
-    requires end { at.0 <ℤ end_instant }
+    requires { IsWritable at.0 }
     ensures { IsTimeText at.0 buf.new }
 {
     let date = Date::from_unix_epoch_day(at.0.div_euclid(DAY)).unwrap();

@@ -1,6 +1,6 @@
-use Rattle.std.proofs.Common.{◌≡◌, ◌∙◌, ap, Some, None, IfSome, IfNone}
+use Rattle.std.proofs.Common.{◌∙◌, ap}
 use Rattle.civil_values.specs.TimeReader.{offset_of}
-use Rattle.civil_values.proofs.Offsets.{some_sound, offset_of-complete}
+use Rattle.civil_values.proofs.Offsets.{some_sound}
 use Rattle.civil_values.proofs.offset.read_offset.Goals as goal
 
 pub returns-clause-found : goal.returns-clause-found

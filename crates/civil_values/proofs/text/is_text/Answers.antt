@@ -1,4 +1,4 @@
-use Rattle.std.proofs.Common.{◌≡◌, ◌∙◌, ◌&&◌, sym, tests, rules, arith, nat_lt, true, length, ap}
+use Rattle.std.proofs.Common.{◌≡◌, ◌∙◌, sym, tests, rules, arith, length}
 use Rattle.std.specs.Str.{chars}
 use Rattle.std.specs.List.{list_all}
 use Rattle.std.proofs.lemmas.Iterator.{YieldsList-from_chars}

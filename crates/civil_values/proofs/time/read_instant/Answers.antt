@@ -1,8 +1,7 @@
-use Rattle.std.proofs.Common.{◌≡◌, ◌∙◌, ap, sym, Some, None, option_map, arith, w32}
+use Rattle.std.proofs.Common.{◌∙◌, ap, sym, Some, option_map, arith, w32}
 use Rattle.std.proofs.lemmas.Int.{to_z-of_z}
 use Rattle.jiff_core.proofs.SignedLemmas.{signed_casts}
 use Rattle.civil_values.specs.Times.{instant}
-use Rattle.civil_values.specs.TimeReader.{moment_of}
 use Rattle.civil_values.proofs.Moments.{short, no_day, no_rest, none_mapped, instant_by}
 use Rattle.civil_values.proofs.time.read_instant.Goals as goal
 

@@ -1,4 +1,4 @@
-use Rattle.std.proofs.Common.{◌≡◌, ◌∙◌, sym, Some, None, w32, FitsSigned, arith}
+use Rattle.std.proofs.Common.{◌∙◌, sym, w32, FitsSigned, arith}
 use Rattle.std.proofs.lemmas.Int.{to_z-of_z}
 use Rattle.jiff_core.proofs.SignedLemmas.{signed_arith}
 use Rattle.civil_values.proofs.Moments.{placed_none, placed_some}

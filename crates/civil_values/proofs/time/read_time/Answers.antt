@@ -1,7 +1,7 @@
-use Rattle.std.proofs.Common.{◌≡◌, ◌∙◌, ap, sym, Some, None, IfSome, IfNone, w32, w64, FitsSigned, arith}
+use Rattle.std.proofs.Common.{w32, w64, FitsSigned, arith}
 use Rattle.std.proofs.lemmas.Int.{to_z-of_z}
 use Rattle.jiff_core.proofs.SignedLemmas.{signed_arith}
-use Rattle.civil_values.proofs.TimeLaws.{time_none, time_early, time_found, canonical_early, canonical_found}
+use Rattle.civil_values.proofs.TimeLaws.{time_none, time_range, time_early, time_found, canonical_early, canonical_found}
 use Rattle.civil_values.proofs.time.read_time.Goals as goal
 
 pub returns-in_err-at-clause-none : goal.returns-in_err-at-clause-none
@@ -45,3 +45,13 @@ returns-else-at-lt-FIRST-clause-canonical c =
     let fits : FitsSigned w64 c.in_ok-at.at = omega (arith, signed_arith) in
     let back = to_z-of_z w64 c.in_ok-at.at fits in
     rw back (canonical_found c.args.offset c.args.text.now c.in_ok-at.at c.requires read)
+
+pub returns-else-at-lt-FIRST-clause-writable : goal.returns-else-at-lt-FIRST-clause-writable
+returns-else-at-lt-FIRST-clause-writable c =
+    let given = to_z-of_z w32 c.args.offset c.ranges.offset in
+    let read = rw (given, c.as_bytes.ensures.value) at c.in_ok-at.ensures.value in
+    let near = c.in_ok-at.ensures.near in
+    let fits : FitsSigned w64 c.in_ok-at.at = omega (arith, signed_arith) in
+    let back = to_z-of_z w64 c.in_ok-at.at fits in
+    let time = time_found c.args.offset c.args.text.now c.in_ok-at.at read (omega (arith, signed_arith, rw back at c.if-at-lt-FIRST.false)) in
+    rw back (time_range c.args.offset c.args.text.now c.in_ok-at.at c.requires time)

@@ -1,4 +1,4 @@
-use Rattle.std.proofs.Common.{◌≡◌, ◌∙◌, sym, ap, nat_abs, ℤ, pos, neg_ℤ, ◌≤ℤ◌, arith, w16, w64, FitsSigned}
+use Rattle.std.proofs.Common.{◌≡◌, ◌∙◌, ap, nat_abs, ℤ, pos, neg_ℤ, ◌≤ℤ◌, arith, w16, w64, FitsSigned}
 use Rattle.std.specs.Int.{int_div_euclid, int_rem_euclid}
 use Rattle.std.proofs.lemmas.Int.{to_z-of_z}
 use Rattle.jiff_core.specs.Date.{epoch_day}
@@ -8,8 +8,8 @@ use Rattle.civil_values.proofs.time_text.write_time.Goals as goal
 
 pub overflow_cast-date : goal.overflow_cast-date
 overflow_cast-date c =
-    let first = c.requires.first in
-    let end = c.requires.end in
+    let first = c.requires.0 in
+    let end = c.requires.1 in
     let at_fits : FitsSigned w64 c.args.at.0 = omega (arith, signed_arith) in
     let div : c.div_euclid.result ≡ int_div_euclid c.args.at.0 (pos 86_400_000) = rw (to_z-of_z w64 c.args.at.0 at_fits) at c.div_euclid.ensures in
     let div_fits : FitsSigned w64 c.div_euclid.result = omega (arith, signed_arith) in
@@ -23,8 +23,8 @@ overflow_cast-date c =
 
 pub returns : goal.returns
 returns c =
-    let first = c.requires.first in
-    let end = c.requires.end in
+    let first = c.requires.0 in
+    let end = c.requires.1 in
     let at_fits : FitsSigned w64 c.args.at.0 = omega (arith, signed_arith) in
     let div : c.div_euclid.result ≡ int_div_euclid c.args.at.0 (pos 86_400_000) = rw (to_z-of_z w64 c.args.at.0 at_fits) at c.div_euclid.ensures in
     let div_fits : FitsSigned w64 c.div_euclid.result = omega (arith, signed_arith) in
