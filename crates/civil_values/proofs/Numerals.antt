@@ -1,5 +1,5 @@
 -- What `parse` reads is what `int_value` says, and the digits of a number.
-use Rattle.std.proofs.Common.{◌≡◌, refl, ap, ℕ, suc, ◌+◌, ◌/◌, ◌%◌, ◌<◌, ◌≤◌, true, false, ◌&&◌, ◌==◌, nat_lt, ℤ, pos, neg_ℤ, int_le, List, ◌∷◌, length, Some, Result, Ok, Err, arith, inl, inr, w64, FitsSigned}
+use Rattle.std.proofs.Common.{subst, ◌≡◌, refl, ap, ℕ, suc, ◌+◌, ◌/◌, ◌%◌, ◌<◌, ◌≤◌, true, false, ◌&&◌, ◌==◌, nat_lt, ℤ, pos, neg_ℤ, int_le, List, ◌∷◌, length, Some, Result, Ok, Err, arith, inl, inr, w64, FitsSigned}
 use Rattle.std.specs.Result.{result_ok}
 use Rattle.std.specs.Str.{all_ascii_digits}
 use Rattle.std.specs.Str.Parse.{IsNumeral, digits_value, ParsesSigned, signed_digits_value, without_leading_sign}
@@ -7,10 +7,11 @@ use Rattle.std.specs.Fmt.{digits_onto}
 use Rattle.std.proofs.lemmas.Bool.{cases_Bool, and_parts, and_from, lt-ltb, ltb-true, ne_eqb}
 use Rattle.std.proofs.lemmas.Str.Parse.{tells_all_ascii_digits, numerals_by_value, IsNumeralModel}
 use Rattle.jiff_core.proofs.SignedLemmas.{signed_arith}
+use Rattle.civil_values.proofs.Digits.{passed, some_same}
 use Rattle.civil_values.specs.Numbers.{is_integer, has_64_bits, int_value}
 
 -- digits as a test and as a fact
-own : IsNumeralModel (λ ds. all_ascii_digits ds ≡ true) (digits_value 10)
+pub own : IsNumeralModel (λ ds. all_ascii_digits ds ≡ true) (digits_value 10)
 own = numerals_by_value _ tells_all_ascii_digits
 
 is_integer-numeral : (text : List ℕ) → is_integer text ≡ true → IsNumeral 10 (without_leading_sign text)
@@ -22,7 +23,7 @@ numeral-is_integer : (text : List ℕ) → IsNumeral 10 (without_leading_sign te
 numeral-is_integer text h =
     and_from (nat_lt 0 (length (without_leading_sign text))) (all_ascii_digits (without_leading_sign text)) (lt-ltb 0 (length (without_leading_sign text)) h.0) (own.from (without_leading_sign text) h.1)
 
-has_64_bits-fits : (z : ℤ) → has_64_bits z ≡ true → FitsSigned w64 z
+pub has_64_bits-fits : (z : ℤ) → has_64_bits z ≡ true → FitsSigned w64 z
 has_64_bits-fits z e =
     let both = and_parts (int_le (neg_ℤ (pos 9_223_372_036_854_775_808)) z) (int_le z (pos 9_223_372_036_854_775_807)) e in
     omega (arith, signed_arith)
@@ -32,6 +33,13 @@ fits-has_64_bits z h =
     and_from (int_le (neg_ℤ (pos 9_223_372_036_854_775_808)) z) (int_le z (pos 9_223_372_036_854_775_807))
     (elim (cases_Bool (int_le (neg_ℤ (pos 9_223_372_036_854_775_808)) z)) [ inl t ↦ t | inr f ↦ absurd (omega (arith, signed_arith)) ])
     (elim (cases_Bool (int_le z (pos 9_223_372_036_854_775_807))) [ inl t ↦ t | inr f ↦ absurd (omega (arith, signed_arith)) ])
+
+-- a number that a text spells has 64 bits
+pub signed_value : (text : List ℕ) (z : ℤ) → int_value text ≡ Some z → FitsSigned w64 z
+signed_value text z e =
+    let p = passed (is_integer text && has_64_bits (signed_digits_value 10 text)) (Some (signed_digits_value 10 text)) z e in
+    let both = and_parts (is_integer text) (has_64_bits (signed_digits_value 10 text)) p.0 in
+    subst (λ (y : ℤ). FitsSigned w64 y) (some_same (signed_digits_value 10 text) z p.1) (has_64_bits-fits (signed_digits_value 10 text) both.1)
 
 pub parsed : {E : Type 0} (text : List ℕ) (r : Result ℤ E) → ParsesSigned w64 10 text r → result_ok r ≡ int_value text
 parsed text (Ok z) h =

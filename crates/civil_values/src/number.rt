@@ -1,5 +1,6 @@
 // Whole numbers.
 ghost use Rattle.std.specs.Prelude.{◌≡◌, ◌≤◌, ◌<◌, ◌^◌, take, drop};
+ghost use Rattle.std.specs.Str.{IsAscii};
 ghost use Rattle.std.specs.Fmt.{decimal};
 ghost use Rattle.civil_values.specs.Numbers.{int_value, int_text};
 
@@ -27,8 +28,7 @@ fn write_digits(n: u64, digits: &mut [u8; 20]) -> usize
     at
 }
 
-/// Writes a number with no plus sign and no leading zeros, and says how many bytes it wrote.
-pub fn write_int(n: i64, buf: &mut [u8; 20]) -> usize
+fn write_signed(n: i64, buf: &mut [u8; 20]) -> usize
     ensures within { result ≤ 20 }
     ensures text { take result buf.new ≡ int_text n }
 {
@@ -43,4 +43,13 @@ pub fn write_int(n: i64, buf: &mut [u8; 20]) -> usize
         buf[..len].copy_from_slice(&digits[start..]);
         len
     }
+}
+
+/// Writes a number with no plus sign and no leading zeros, and says how many bytes it wrote.
+pub fn write_int(n: i64, buf: &mut [u8; 20]) -> usize
+    ensures within { result ≤ 20 }
+    ensures text { take result buf.new ≡ int_text n }
+    ensures ascii { IsAscii (take result buf.new) }
+{
+    write_signed(n, buf)
 }

@@ -1,5 +1,6 @@
 // The text that an instant is written as.
 ghost use Rattle.std.specs.Prelude.{◌≡◌, ◌<◌, ◌≤◌, ◌+◌, ◌/◌, ◌%◌};
+ghost use Rattle.std.specs.Str.{IsAscii};
 ghost use Rattle.civil_values.specs.Times.{IsTimeText, IsWritable, utc_text};
 
 use crate::time::{DAY, Millis};
@@ -67,7 +68,8 @@ fn utc(year: u32, month: u32, day: u32, clock: u32) -> [u8; 29]
 /// Writes an instant of the years 0001 to 9999 as `YYYY-MM-DDTHH:MM:SS.mmm+00:00`.
 pub fn write_time(at: Millis, buf: &mut [u8; 29])
     requires { IsWritable at.0 }
-    ensures { IsTimeText at.0 buf.new }
+    ensures text { IsTimeText at.0 buf.new }
+    ensures ascii { IsAscii buf.new }
 {
     let date = Date::from_unix_epoch_day(at.0.div_euclid(DAY)).unwrap();
     let clock = at.0.rem_euclid(DAY) as u32;

@@ -4,6 +4,7 @@ use Rattle.std.proofs.lemmas.Int.{to_z-of_z}
 use Rattle.jiff_core.specs.Date.{epoch_day}
 use Rattle.jiff_core.proofs.SignedLemmas.{signed_arith}
 use Rattle.civil_values.proofs.Written.{year_from_number, year_fits, year_is, clock_is, text_of}
+use Rattle.civil_values.proofs.CellTexts.{time_ascii}
 use Rattle.civil_values.proofs.time_text.write_time.Goals as goal
 
 pub overflow_cast-date : goal.overflow_cast-date
@@ -21,8 +22,8 @@ overflow_cast-date c =
     let year_fits16 : FitsSigned w16 c.unwrap-date.result.year = omega (arith, signed_arith) in
     rw (to_z-of_z w16 c.unwrap-date.result.year year_fits16) (year_fits c.unwrap-date.result.year year range.1)
 
-pub returns : goal.returns
-returns c =
+pub returns-clause-text : goal.returns-clause-text
+returns-clause-text c =
     let first = c.requires.0 in
     let end = c.requires.1 in
     let at_fits : FitsSigned w64 c.args.at.0 = omega (arith, signed_arith) in
@@ -42,3 +43,6 @@ returns c =
     rw c.utc.ensures (text_of c.args.at.0 c.unwrap-date.result _ _ first end (day ∙ div)
     (ap (λ (y : ℤ). pos (nat_abs y)) year_back ∙ year_is c.unwrap-date.result.year year)
     (ap (λ (z : ℤ). pos (nat_abs z)) rem_back ∙ clock_is c.rem_euclid-clock.result rem_low ∙ rem))
+
+pub returns-clause-ascii : goal.returns-clause-ascii
+returns-clause-ascii c = time_ascii c.args.at.0 c.utc.result (returns-clause-text c)
