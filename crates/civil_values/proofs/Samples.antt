@@ -1,9 +1,8 @@
 -- What the definitions say of texts whose values are known.
-use Rattle.std.proofs.Common.{◌≡◌, refl, ℕ, List, [], ◌∷◌, ◌++◌, Option, None, Some, Bool, true, false, ℤ, pos, neg_ℤ}
+use Rattle.std.proofs.Common.{◌≡◌, refl, ℕ, List, [], ◌∷◌, ◌++◌, None, Some, ℤ, pos, neg_ℤ}
 use Rattle.std.specs.Prelude.{codes, replicate}
 use Rattle.std.specs.Fmt.{digits}
 use Rattle.std.specs.Str.{chars}
-use Rattle.civil_values.specs.Times.{Moment, CivilDay}
 use Rattle.civil_values.specs.TimeReader.{time_canonical, offset_of, moment_of, day_before, day_after}
 use Rattle.civil_values.specs.Numbers.{int_value, int_canonical}
 use Rattle.civil_values.specs.Truth.{bool_canonical}

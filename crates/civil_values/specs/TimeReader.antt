@@ -86,13 +86,15 @@ zone_of given text = if length text == 0 then Some given else offset_of text
 abbrev pub is_mark : ℕ → Bool
 is_mark b = (b == 84) || (b == 116) || (b == 32)
 
+-- a time of day, and the offset behind it
+abbrev pub placed_of : ℤ → List ℕ → Option (ℕ × ℤ)
+placed_of given text = clock_of text >>= (λ clock. zone_of given clock.1 >>= (λ ahead. Some (clock.0, ahead)))
+
 -- the time of day and the offset that stand behind a day
 abbrev pub after_day : ℤ → List ℕ → Option (ℕ × ℤ)
 after_day given text =
     if length text == 0 then Some (0, given)
-    else (if is_mark (slice_index text 0)
-    then clock_of (drop 1 text) >>= (λ c. zone_of given c.1 >>= (λ ahead. Some (c.0, ahead)))
-    else None)
+    else (if is_mark (slice_index text 0) then placed_of given (drop 1 text) else None)
 
 -- the moment that a text spells
 unfoldable pub moment_of : ℤ → List ℕ → Option Moment

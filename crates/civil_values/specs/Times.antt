@@ -50,6 +50,10 @@ first_instant = neg_ℤ (pos 62_135_596_800_000)
 abbrev pub end_instant : ℤ
 end_instant = pos 253_402_300_800_000
 
+-- an instant of the years 0001 to 9999
+abbrev pub IsWritable : ℤ → Type 0
+IsWritable ms = (first_instant ≤ℤ ms) × (ms <ℤ end_instant)
+
 -- the byte of a digit
 abbrev pub IsDigit : ℕ → Type 0
 IsDigit b = IsInRange 48 57 b

@@ -1,0 +1,16 @@
+// Texts.
+ghost use Rattle.std.specs.Prelude.{◌≡◌};
+ghost use Rattle.civil_values.specs.Texts.{is_xml_char, is_cell_text};
+
+fn is_allowed(c: char) -> bool
+    ensures { result ≡ is_xml_char c }
+{
+    matches!(c, '\t' | '\n' | '\r' | ' '..='\u{D7FF}' | '\u{E000}'..='\u{FFFD}' | '\u{10000}'..='\u{10FFFF}')
+}
+
+/// Whether a text is one character or more, each a character of XML 1.0.
+pub fn is_text(text: &str) -> bool
+    ensures { result ≡ is_cell_text text.now }
+{
+    !text.is_empty() && text.chars().all(is_allowed)
+}
