@@ -1,4 +1,5 @@
 pub mod Characters
+pub mod Filling
 pub mod Templates
 pub mod Texts
 pub mod Unifying

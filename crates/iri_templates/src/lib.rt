@@ -1,11 +1,14 @@
 //! IRI templates: texts with holes that table cells fill, percent-encoded.
 #![tactic(auto)]
 
+mod cells;
+mod encoding;
 mod fault;
 mod segment;
 mod template;
 mod unifier;
 
+pub use cells::HoleCells;
 pub use fault::TemplateFault;
 pub use segment::{Part, Segment};
 pub use template::Template;
