@@ -1,0 +1,5 @@
+pub mod Written
+pub mod Grammar
+pub mod Judging
+pub mod Tables
+pub mod Mappings
