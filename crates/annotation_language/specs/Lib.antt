@@ -1,1 +1,5 @@
 pub mod Complete
+pub mod Written
+pub mod Grammar
+pub mod Judging
+pub mod Lines

@@ -1,0 +1,123 @@
+-- The grammar of annotation lines, over the tokens of a line.
+use Rattle.std.specs.Prelude.{ℕ, zero, suc, List, [], ◌∷◌, Option, Some, None, if◌then◌else◌, length, codes}
+use Rattle.std.specs.Str.{bytes_eq}
+use Rattle.line_lexer.specs.Tokens.{Seen}
+use Rattle.line_lexer.specs.Grammar.{◌>>=◌, either, expect, any_word, any_quoted, name, ended}
+use Rattle.vocabulary.specs.declared.ids.ValueKind.{ValueKind}
+use Rattle.vocabulary.specs.declared.ids.ValueKind.TheVariants.{Text, Int, Bool as Boolean, Time}
+use Rattle.annotation_language.specs.declared.notes.Rule.{Rule}
+use Rattle.annotation_language.specs.declared.notes.Rule.TheVariants.{Mandatory, Single, Many}
+use Rattle.annotation_language.specs.Written.{Argument, Blank, Variable, Constant, Iri, Atom, One, Two, Asked, Source, Answers, Is, Line, Case, CaseName, Event, Cases, Key, Query}
+
+-- one item before the others, where they are there
+abbrev pub in_front : {A : Type 0} → A → Option (List A × List Seen) → Option (List A × List Seen)
+in_front x None = None
+in_front x (Some (xs, rest)) = Some (x ∷ xs, rest)
+
+-- from one to so many items with commas between; an item takes a token at least, so as many as there are tokens is no bound
+unfoldable pub at_most : {A : Type 0} → ℕ → (List Seen → Option (A × List Seen)) → List Seen → Option (List A × List Seen)
+at_most zero item tokens = None
+at_most (suc most) item tokens = item tokens >>= (λ x.
+    either (expect (codes ",") x.1) (λ rest. in_front x.0 (at_most most item rest)) (Some (x.0 ∷ [], x.1)))
+
+-- one item or more, with commas between
+abbrev pub listed : {A : Type 0} → (List Seen → Option (A × List Seen)) → List Seen → Option (List A × List Seen)
+listed item tokens = at_most (length tokens) item tokens
+
+-- the kind that a word names
+abbrev pub kind_of : List ℕ → Option ValueKind
+kind_of word =
+    if bytes_eq word (codes "text") then Some Text
+    else (if bytes_eq word (codes "int") then Some Int
+    else (if bytes_eq word (codes "bool") then Some Boolean
+    else (if bytes_eq word (codes "time") then Some Time else None)))
+
+-- the rule that a word names
+abbrev pub rule_of : List ℕ → Option Rule
+rule_of word =
+    if bytes_eq word (codes "mandatory") then Some Mandatory
+    else (if bytes_eq word (codes "single") then Some Single
+    else (if bytes_eq word (codes "many") then Some Many else None))
+
+-- ARG
+abbrev pub argument : List Seen → Option (Argument × List Seen)
+argument tokens =
+    either (any_quoted tokens) (λ text. Some (Constant text.0, text.1))
+    (either (expect (codes "iri") tokens) (λ rest. any_quoted rest >>= (λ text. Some (Iri text.0, text.1)))
+    (either (expect (codes "_") tokens) (λ rest. Some (Blank, rest))
+    (name tokens >>= (λ v. Some (Variable v.0, v.1)))))
+
+-- `A(ARG)` or `P(ARG, ARG)`
+unfoldable pub atom : List Seen → Option (Atom × List Seen)
+atom tokens = do
+  p ← name tokens
+  rest ← expect (codes "(") p.1
+  a ← argument rest
+  either (expect (codes ",") a.1)
+      (λ rest. argument rest >>= (λ b. expect (codes ")") b.1 >>= (λ rest. Some (Two p.0 a.0 b.0, rest))))
+      (expect (codes ")") a.1 >>= (λ rest. Some (One p.0 a.0, rest)))
+
+-- behind a head: `where ATOMS` and nothing more
+abbrev pub asked : List (List ℕ) → List Seen → Option Asked
+asked head tokens = do
+  rest ← expect (codes "where") tokens
+  atoms ← listed atom rest
+  if ended atoms.1 then Some (record { head = head; atoms = atoms.0 }) else None
+
+-- `v where ATOMS`
+unfoldable pub of_one : List Seen → Option Asked
+of_one tokens = do
+  v ← name tokens
+  asked (v.0 ∷ []) v.1
+
+-- `(v, w) where ATOMS`
+unfoldable pub of_two : List Seen → Option Asked
+of_two tokens = do
+  rest ← expect (codes "(") tokens
+  v ← name rest
+  rest ← expect (codes ",") v.1
+  w ← name rest
+  rest ← expect (codes ")") w.1
+  asked (v.0 ∷ w.0 ∷ []) rest
+
+-- variables in parentheses, maybe none, then `where ATOMS`
+unfoldable pub of_any : List Seen → Option Asked
+of_any tokens = do
+  rest ← expect (codes "(") tokens
+  either (expect (codes ")") rest) (λ rest. asked [] rest) (do
+    head ← listed name rest
+    rest ← expect (codes ")") head.1
+    asked head.0 rest)
+
+-- behind a rule: `is KIND "TEXT"`, or a query of two variables
+abbrev pub source : List Seen → Option Source
+source tokens = either (expect (codes "is") tokens)
+    (λ rest. any_word rest >>= (λ word. kind_of word.0 >>= (λ k. any_quoted word.1 >>= (λ text. if ended text.1 then Some (Is k text.0) else None))))
+    (of_two tokens >>= (λ q. Some (Answers q)))
+
+-- a name, and the query behind it
+abbrev pub named : (List ℕ → Asked → Line) → (List Seen → Option Asked) → List Seen → Option Line
+named line query tokens = do
+  n ← name tokens
+  q ← query n.1
+  Some (line n.0 q)
+
+-- behind `set`: the event, the key, the rule and the source
+unfoldable pub key_line : List Seen → Option Line
+key_line tokens = do
+  event ← name tokens
+  key ← any_quoted event.1
+  word ← any_word key.1
+  rule ← rule_of word.0
+  from ← source word.1
+  Some (Key event.0 key.0 rule from)
+
+-- the annotation line that the tokens are, by their first word; None where they are none
+unfoldable pub annotation_line : List Seen → Option Line
+annotation_line tokens =
+    either (expect (codes "case") tokens) (λ rest. of_one rest >>= (λ q. Some (Case q)))
+    (either (expect (codes "casename") tokens) (λ rest. of_two rest >>= (λ q. Some (CaseName q)))
+    (either (expect (codes "event") tokens) (named Event of_one)
+    (either (expect (codes "cases") tokens) (named Cases of_two)
+    (either (expect (codes "set") tokens) key_line
+    (expect (codes "query") tokens >>= named Query of_any)))))
