@@ -5,7 +5,9 @@ mod cells;
 mod encoding;
 mod fault;
 mod segment;
+mod segments;
 mod template;
+mod token;
 mod unifier;
 
 pub use cells::HoleCells;
