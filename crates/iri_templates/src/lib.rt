@@ -7,6 +7,8 @@ mod fault;
 mod segment;
 mod segments;
 mod template;
+#[cfg(test)]
+mod tests;
 mod token;
 mod unifier;
 
