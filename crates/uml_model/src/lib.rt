@@ -9,6 +9,8 @@ mod line;
 mod reader;
 mod rules;
 mod statement;
+#[cfg(test)]
+mod tests;
 
 pub use axioms::axioms_of;
 pub use class_model::{Element, Model};
