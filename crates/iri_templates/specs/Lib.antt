@@ -1,5 +1,6 @@
 pub mod Characters
 pub mod Filling
+pub mod Parsing
 pub mod Templates
 pub mod Texts
 pub mod Unifying

@@ -5,7 +5,11 @@ mod cells;
 mod encoding;
 mod fault;
 mod segment;
+mod segments;
 mod template;
+#[cfg(test)]
+mod tests;
+mod token;
 mod unifier;
 
 pub use cells::HoleCells;

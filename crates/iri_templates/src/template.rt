@@ -1,10 +1,14 @@
 //! Templates.
-ghost use Rattle.std.specs.Prelude.{◌≡◌, ◌<◌, ◌≤◌, ◌^◌, ◌++◌, All, if◌then◌else◌, length, None, Some, option_map, string_bytes, IfOk};
+ghost use Rattle.std.specs.Prelude.{◌≡◌, ◌≢◌, ◌==◌, ◌<◌, ◌≤◌, ◌^◌, ◌++◌, [], All, drop, get_or, if◌then◌else◌, length, Ok, Err, None, Some, option_map, slice_get, string_bytes, true, IfErr, IfOk, MatchResult};
+ghost use Rattle.iri_templates.specs.declared.fault.TemplateFault.TheVariants.{BadChar, NoMemory, Unclosed};
 ghost use Rattle.iri_templates.specs.Filling.{holes_end, parts_over, whole_over};
-ghost use Rattle.iri_templates.specs.Templates.{hole_texts};
+ghost use Rattle.iri_templates.specs.Parsing.{IsToken, segment_read};
+ghost use Rattle.iri_templates.specs.Templates.{hole_texts, segments_of, template_of, unbounded_from};
 ghost use Rattle.iri_templates.specs.Texts.{filled_text, hole_after};
 
-use crate::{HoleCells, Part, Segment};
+use crate::segments::{count_after, read_parts, read_segment};
+use crate::token::{Token, tokens_of};
+use crate::{HoleCells, Part, Segment, TemplateFault};
 use std::alloc::{AllocError, Global};
 use std::marker::Model;
 use vocabulary::Name;
@@ -83,7 +87,87 @@ fn fill_segments<H: HoleCells>(
     Ok(Some(Name::from_string(text)))
 }
 
+// Bounded tokens as a template, or the first hole that is not bounded.
+fn read_tokens(alloc: Global, tokens: &[Token]) -> Result<Result<Template, usize>, AllocError>
+    requires tokens { All IsToken tokens.now }
+    requires some { tokens.now ≢ [] }
+    ensures { IfOk result (λ read. MatchResult read (λ t. (unbounded_from true 0 tokens.now ≡ None) × (t ≡ segments_of tokens.now)) (λ hole. unbounded_from true 0 tokens.now ≡ Some hole)) }
+{
+    match read_segment(alloc, tokens, 0)? {
+        None => Ok(Err(0)),
+        Some((first, end)) => read_behind(alloc, tokens, first, end),
+    }
+}
+
+fn read_behind(
+    alloc: Global,
+    tokens: &[Token],
+    first: Segment,
+    end: usize,
+) -> Result<Result<Template, usize>, AllocError>
+    requires tokens { All IsToken tokens.now }
+    requires some { tokens.now ≢ [] }
+    requires within { end ≤ length tokens.now }
+    requires read { Some (first, drop end tokens.now) ≡ segment_read tokens.now }
+    requires further { hole_after first 0 ≤ end }
+    ensures { IfOk result (λ read. MatchResult read (λ t. (unbounded_from true 0 tokens.now ≡ None) × (t ≡ segments_of tokens.now)) (λ hole. unbounded_from true 0 tokens.now ≡ Some hole)) }
+{
+    let holes = count_after(&first, 0);
+    match read_parts(alloc, tokens, end, holes)? {
+        Err(hole) => Ok(Err(hole)),
+        Ok((rest, count)) => {
+            if count > u32::MAX as usize {
+                return Err(AllocError);
+            }
+            Ok(Ok(Template {
+                first,
+                rest,
+                holes: count as u32,
+            }))
+        }
+    }
+}
+
+fn stop_fault(text: &[u8], at: usize) -> TemplateFault
+    requires { at < length text.now }
+    ensures { result ≡ (if get_or text.now at 0 == 123 then Unclosed at else BadChar at) }
+{
+    if text[at] == b'{' {
+        TemplateFault::Unclosed(at)
+    } else {
+        TemplateFault::BadChar(at)
+    }
+}
+
+fn read_text(alloc: Global, text: &str) -> Result<Result<Template, TemplateFault>, AllocError>
+    ensures { IfOk result (λ read. read ≡ template_of text.now) }
+{
+    if text.is_empty() {
+        return Ok(Err(TemplateFault::Empty));
+    }
+    let (tokens, end) = tokens_of(alloc, text)?;
+    if end < text.len() {
+        return Ok(Err(stop_fault(text.as_bytes(), end)));
+    }
+    match read_tokens(alloc, tokens.as_slice())? {
+        Ok(template) => Ok(Ok(template)),
+        Err(hole) => Ok(Err(TemplateFault::NotBounded(hole))),
+    }
+}
+
 impl Template {
+    /// The template that the text is, or the first fault in it. Of faults at places in the text
+    /// the earliest is named, and only where there are none the first hole that is not bounded.
+    pub fn parse(alloc: Global, text: &str) -> Result<Template, TemplateFault>
+        ensures read { IfOk result (λ t. template_of text.now ≡ Ok t) }
+        ensures fault { IfErr result (λ e. e ≢ NoMemory → template_of text.now ≡ Err e) }
+    {
+        match read_text(alloc, text) {
+            Ok(read) => read,
+            Err(_) => Err(TemplateFault::NoMemory),
+        }
+    }
+
     /// The number of holes. A text that stands in two places is two holes.
     pub fn holes(&self) -> u32
         ensures { result ≡ length (hole_texts self.now) }
