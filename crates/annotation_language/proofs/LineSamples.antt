@@ -53,14 +53,14 @@ before = record {
     events = event None (record { key = codes "k"; rule = Many; source = FixedKey Text (codes "x") } ∷ []) ∷ [];
     queries = record { name = codes "q"; query = papers } ∷ [];
   };
-  variables = (codes "c" ∷ []) ∷ [];
+  variables = record { name = codes "q"; variables = codes "c" ∷ [] } ∷ [];
 }
 
 abbrev says : Noted → List ℕ → Result Noted LineFault
 says s line = read_annotation_line class_of link_of 9 s line
 
 -- one line of each kind
-a_case : says nothing (codes "case c where Paper(c)") ≡ Ok (record nothing { notes = record nothing.notes { case_query = Some papers } })
+a_case : says nothing (codes "case c where Paper(c)") ≡ Ok (record { notes = record nothing.notes { case_query = Some papers }; variables = record { name = codes "case"; variables = codes "c" ∷ [] } ∷ [] })
 unfolding chars tokens_behind token_front at_most atom of_one annotation_line template_of broken grown
 a_case = refl
 
@@ -72,10 +72,9 @@ a_case_name : says before (codes "casename (c, n) where title(c, n)") ≡ Ok (re
 unfolding chars tokens_behind token_front at_most atom of_two annotation_line template_of broken grown
 a_case_name = refl
 
-an_event : says before (codes "event f x where Paper(x)") ≡ Ok (record before {
-  notes = record before.notes {
-    events = before.notes.events ++ record { name = codes "f"; line = 9; objects = papers; cases = None; keys = [] } ∷ [];
-  };
+an_event : says before (codes "event f x where Paper(x)") ≡ Ok (record {
+  notes = record before.notes { events = before.notes.events ++ record { name = codes "f"; line = 9; objects = papers; cases = None; keys = [] } ∷ [] };
+  variables = before.variables ++ record { name = codes "f"; variables = codes "x" ∷ [] } ∷ [];
 })
 unfolding chars tokens_behind token_front at_most atom of_one annotation_line template_of broken grown
 an_event = refl
@@ -114,11 +113,11 @@ a_query : map (says before) (codes "query r (b, a) where writes(a, b), title(b, 
           };
         } ∷ [];
       };
-      variables = before.variables ++ (codes "b" ∷ codes "a" ∷ []) ∷ [];
+      variables = before.variables ++ record { name = codes "r"; variables = codes "b" ∷ codes "a" ∷ [] } ∷ [];
     })
     ∷ Ok (record {
       notes = record before.notes { queries = before.notes.queries ++ record { name = codes "r"; query = record { head = []; atoms = InClass (record { 0 = 0 }) Blank ∷ [] } } ∷ [] };
-      variables = before.variables ++ [] ∷ [];
+      variables = before.variables ++ record { name = codes "r"; variables = [] } ∷ [];
     }) ∷ []
 unfolding chars tokens_behind token_front at_most atom of_any annotation_line template_of broken grown
 a_query = refl

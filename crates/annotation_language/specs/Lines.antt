@@ -35,10 +35,15 @@ use Rattle.annotation_language.specs.Written.{Argument, Blank, Variable, Constan
 use Rattle.annotation_language.specs.Grammar.{annotation_line}
 use Rattle.annotation_language.specs.Judging.{first_broken, read_by}
 
--- annotations, and the names of the variables of each named query by their numbers
+-- the variables of a query that can be asked by a name, which is `case` for the case query, in the order of their numbers
+pub record VariablesOf : Type 0 where
+  pub name : List ℕ
+  pub variables : List (List ℕ)
+
+-- annotations, and the variables of the case query, the events and the named queries
 pub record Noted : Type 0 where
   pub notes : Annotations
-  pub variables : List (List (List ℕ))
+  pub variables : List VariablesOf
 
 -- nothing yet
 abbrev pub nothing : Noted
@@ -230,6 +235,10 @@ changed s e f = record s { notes = record s.notes { events = map (λ event. if b
 abbrev pub counts : Asked → List (Counted × ℕ) → List (Counted × ℕ)
 counts q others = (Atoms, length q.atoms) ∷ (Variables, length (variables_of q)) ∷ (Variables, length q.head) ∷ others
 
+-- with the variables of a query of this name
+abbrev pub with_variables : List ℕ → Asked → List VariablesOf → List VariablesOf
+with_variables n q found = found ++ record { name = n; variables = variables_of q } ∷ []
+
 -- the second head variable
 abbrev pub second : Asked → List ℕ
 second q = get_or q.head 1 []
@@ -314,14 +323,17 @@ module _ (class_of : List ℕ → Option ClassId) (link_of : List ℕ → Option
 
   -- the annotations with an annotation line, the line of this number
   unfoldable pub grown : ℕ → Noted → Line → Noted
-  grown number s (Case q) = record s { notes = record s.notes { case_query = Some (query_of q) } }
+  grown number s (Case q) = record { notes = record s.notes { case_query = Some (query_of q) }; variables = with_variables (codes "case") q s.variables }
   grown number s (CaseName q) = record s { notes = record s.notes { case_name = Some (query_of q) } }
-  grown number s (Event e q) = record s { notes = record s.notes { events = s.notes.events ++ record { name = e; line = number; objects = query_of q; cases = None; keys = [] } ∷ [] } }
+  grown number s (Event e q) = record {
+    notes = record s.notes { events = s.notes.events ++ record { name = e; line = number; objects = query_of q; cases = None; keys = [] } ∷ [] };
+    variables = with_variables e q s.variables;
+  }
   grown number s (Cases e q) = changed s e (λ event. record event { cases = Some (query_of q) })
   grown number s (Key e key rule source) = changed s e (λ event. record event { keys = event.keys ++ record { key = key; rule = rule; source = source_of source } ∷ [] })
   grown number s (Query n q) = record {
     notes = record s.notes { queries = s.notes.queries ++ record { name = n; query = query_of q } ∷ [] };
-    variables = s.variables ++ variables_of q ∷ [];
+    variables = with_variables n q s.variables;
   }
 
   -- the annotations with the line of this number, or its first fault
