@@ -16,7 +16,9 @@ use Rattle.vocabulary.specs.declared.ids.ValueKind.TheVariants.{Text, Int, Bool 
 use Rattle.vocabulary.specs.declared.term.Term.{Value as ValueTerm}
 use Rattle.iri_templates.specs.declared.fault.TemplateFault.{TemplateFault}
 use Rattle.iri_templates.specs.declared.fault.TemplateFault.TheVariants as template_fault
-use Rattle.iri_templates.specs.Templates.{Segments, Token, Plain, Escape, Braced, hole_at, hole_texts, template_of}
+use Rattle.iri_templates.specs.declared.token.Token.{Token}
+use Rattle.iri_templates.specs.declared.token.Token.TheVariants.{Plain, Escape, Braced}
+use Rattle.iri_templates.specs.Templates.{Segments, hole_at, hole_texts, template_of}
 use Rattle.source_tables.specs.declared.decl.ColumnDecl.{ColumnDecl}
 use Rattle.source_tables.specs.declared.decl.TableDecl.{TableDecl}
 use Rattle.source_tables.specs.Cells.{canonical}
