@@ -6,3 +6,5 @@ pub mod Causes
 pub mod Delivery
 pub mod Shown
 pub mod Outputs
+pub mod Project
+pub mod Printed
