@@ -104,13 +104,13 @@ read_source p tokens = with_sources p (read_by source_line (tables.broken p.sour
 
 abbrev pub read_mapping : Project → List Seen → Result Project LineFault
 read_mapping p tokens = with_sources p (read_by map_line
-  (mappings.broken (class_of p.model) (link_of p.model) p.sources)
-  (mappings.grown (class_of p.model) (link_of p.model) p.sources) p.sources (Some tokens))
+    (mappings.broken (class_of p.model) (link_of p.model) p.sources)
+    (mappings.grown (class_of p.model) (link_of p.model) p.sources) p.sources (Some tokens))
 
 abbrev pub read_note : ℕ → Project → List Seen → Result Project LineFault
 read_note number p tokens = with_notes p (read_by annotation_line
-  (notes.broken (class_of p.model) (link_of p.model) p.noted)
-  (notes.grown (class_of p.model) (link_of p.model) number p.noted) p.noted (Some tokens))
+    (notes.broken (class_of p.model) (link_of p.model) p.noted)
+    (notes.grown (class_of p.model) (link_of p.model) number p.noted) p.noted (Some tokens))
 
 -- a line behind `onprom 1`, which may not come again; what begins with no word of another line is a model line or Syntax
 abbrev pub read_tokens : ℕ → Project → List Seen → Result Project LineFault
