@@ -60,6 +60,7 @@ pub fn run<S: Shelf, O: Sink, R: Sink>(
     // No failed call goes without its status.
     ensures shelf_same { result ≢ Status.ReadFault → IsWhole result → S.faults shelf.new ≡ S.faults shelf.old }
     ensures shelf_written { result ≡ Status.WriteFault → S.faults shelf.new ≡ S.faults shelf.old }
+    ensures absences_written { result ≡ Status.WriteFault → S.absences shelf.new ≡ S.absences shelf.old }
     ensures absences_same { result ≢ Status.Absent → IsWhole result → S.absences shelf.new ≡ S.absences shelf.old }
     ensures out_same { result ≢ Status.WriteFault → O.faults out.new ≡ O.faults out.old }
     ensures report_same { result ≢ Status.ReportFault → R.faults report.new ≡ R.faults report.old }
