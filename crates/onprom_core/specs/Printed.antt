@@ -1,16 +1,13 @@
 -- Answers and queries as they are printed.
 use Rattle.std.specs.Prelude.{◌≡◌, ℕ, ◌==◌, List, [], ◌∷◌, ◌++◌, if◌then◌else◌, length, map, flat_map, get_or, codes, decimal}
-use Rattle.std.specs.declared.cmp.Ordering.{Ordering}
-use Rattle.std.specs.Cmp.Lexicographic.{slice_cmp}
 use Rattle.vocabulary.specs.Lists.{IsListOf}
-use Rattle.vocabulary.specs.Terms.{text_of}
-use Rattle.vocabulary.specs.Texts.{text_cmp}
 use Rattle.vocabulary.specs.declared.term.Term.{Term, Named, Value, New'}
 use Rattle.queries.specs.declared.query.Arg.{Arg}
 use Rattle.queries.specs.declared.query.Arg.TheVariants.{Blank, Var, Fixed}
 use Rattle.queries.specs.declared.query.Atom.{Atom}
 use Rattle.queries.specs.declared.query.Atom.TheVariants.{InClass, Linked}
 use Rattle.queries.specs.declared.query.Query.{Query}
+use Rattle.queries.specs.Order.{tuple_cmp}
 
 -- a byte of a value: a backslash before `\` and `"`, and `\t`, `\n` and `\r` for these three
 abbrev pub escaped_byte : ℕ → List ℕ
@@ -44,10 +41,6 @@ joined between (text ∷ texts) = text ++ each_behind between texts
 abbrev pub tuple_text : List Term → List ℕ
 tuple_text [] = codes "()"
 tuple_text (t ∷ ts) = joined (codes " ") (map term_text (t ∷ ts))
-
--- tuples by their first terms that differ, by the bytes of the texts before escaping
-abbrev pub tuple_cmp : List Term → List Term → Ordering
-tuple_cmp a b = slice_cmp (λ s t. text_cmp (text_of s) (text_of t)) a b
 
 abbrev pub lines_text : List (List ℕ) → List ℕ
 lines_text texts = flat_map (λ text. text ++ codes "\n") texts

@@ -21,8 +21,8 @@ use Rattle.queries.specs.declared.query.Arg.TheVariants.{Blank, Var, Fixed}
 use Rattle.queries.specs.declared.query.Atom.{Atom}
 use Rattle.queries.specs.declared.query.Atom.TheVariants.{InClass, Linked}
 use Rattle.queries.specs.declared.query.Query.{Query}
-use Rattle.queries.specs.Laws.{QueriesAreOrdered}
-use Rattle.queries.specs.Order.{kind_rank, term_rank, dir_rank, births, term_cmp, arg_cmp, atom_cmp, query_cmp, atom_same}
+use Rattle.queries.specs.Laws.{QueriesAreOrdered, TuplesAreOrdered}
+use Rattle.queries.specs.Order.{kind_rank, term_rank, dir_rank, births, term_cmp, arg_cmp, atom_cmp, query_cmp, tuple_cmp, atom_same}
 
 then_last : (o : Ordering) → ordering_then o Equal ≡ o
 then_last Less = refl
@@ -227,4 +227,12 @@ pub queries_ordered : QueriesAreOrdered
 queries_ordered = record {
   total = query_total;
   level = λ q r. (query_level q r, λ e. subst (λ s. query_cmp q s ≡ Equal) e (tied_itself query_total q));
+}
+
+pub tuples_ordered : TuplesAreOrdered
+tuples_ordered = record {
+  terms = term_total;
+  term_level = λ t u. (term_level t u, λ e. subst (λ s. term_cmp t s ≡ Equal) e (tied_itself term_total t));
+  tuples = lists_total term_total;
+  tuple_level = λ ts us. (list_level term_cmp term_level ts us, λ e. subst (λ s. tuple_cmp ts s ≡ Equal) e (tied_itself (lists_total term_total) ts));
 }

@@ -7,12 +7,20 @@ use Rattle.queries.specs.declared.query.Atom.{Atom}
 use Rattle.queries.specs.declared.query.Query.{Query}
 use Rattle.queries.specs.Normal.{tidied, settled, normal_form}
 use Rattle.queries.specs.Occurrences.{NoLoneVariable}
-use Rattle.queries.specs.Order.{query_cmp}
+use Rattle.vocabulary.specs.declared.term.Term.{Term}
+use Rattle.queries.specs.Order.{query_cmp, term_cmp, tuple_cmp}
 
 -- queries are in a total order, in which only a query itself is level with it
 pub record QueriesAreOrdered : Type 0 where
   pub total : IsTotalOrder query_cmp
   pub level : (q r : Query) → (query_cmp q r ≡ Equal) ↔ (q ≡ r)
+
+-- and so are terms and tuples
+pub record TuplesAreOrdered : Type 0 where
+  pub terms : IsTotalOrder term_cmp
+  pub term_level : (t u : Term) → (term_cmp t u ≡ Equal) ↔ (t ≡ u)
+  pub tuples : IsTotalOrder tuple_cmp
+  pub tuple_level : (ts us : List Term) → (tuple_cmp ts us ≡ Equal) ↔ (ts ≡ us)
 
 -- what is settled changes no more, and has no lone variable
 pub record TidyingSettles : Type 0 where

@@ -44,6 +44,10 @@ births (New' p d s (more_of-Term t end_of-Term)) = p.0 ∷ dir_rank d ∷ births
 abbrev pub term_cmp : Term → Term → Ordering
 term_cmp t u = ordering_then (text_cmp (text_of t) (text_of u)) (ordering_then (nat_cmp (term_rank t) (term_rank u)) (text_cmp (births t) (births u)))
 
+-- tuples by their first terms that differ; the front of a tuple comes before it
+abbrev pub tuple_cmp : List Term → List Term → Ordering
+tuple_cmp ts us = slice_cmp term_cmp ts us
+
 -- Blank first, then variables by number, then constants
 abbrev pub arg_cmp : Arg → Arg → Ordering
 arg_cmp Blank Blank = Equal

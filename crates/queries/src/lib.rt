@@ -8,4 +8,5 @@ mod query;
 mod replace;
 mod tidy;
 
+pub use order::{compare_terms, compare_tuples};
 pub use query::{Arg, Atom, Query};

@@ -4,7 +4,7 @@ ghost use Rattle.std.specs.Ordering.{is_eq, is_le};
 ghost use Rattle.std.specs.Cmp.Lexicographic.{slice_cmp};
 ghost use Rattle.vocabulary.specs.Terms.{text_of};
 ghost use Rattle.vocabulary.specs.Texts.{text_cmp};
-ghost use Rattle.queries.specs.Order.{arg_cmp, atom_cmp, births, dir_rank, kind_rank, query_cmp, term_cmp, term_rank};
+ghost use Rattle.queries.specs.Order.{arg_cmp, atom_cmp, births, dir_rank, kind_rank, query_cmp, term_cmp, term_rank, tuple_cmp};
 
 use crate::{Arg, Atom, Query};
 use std::cmp::Ordering;
@@ -60,6 +60,21 @@ impl Arg {
     }
 }
 
+/// By the first terms that differ; the front of a tuple comes before it.
+pub fn compare_tuples(ts: &[Term], us: &[Term]) -> Ordering
+    ensures { result ≡ tuple_cmp ts.now us.now }
+{
+    let mut at = 0;
+    while at < ts.len() && at < us.len() {
+        let here = compare_terms(&ts[at], &us[at]);
+        if here.is_ne() {
+            return here;
+        }
+        at += 1;
+    }
+    ts.len().cmp(&us.len())
+}
+
 fn compare_args(xs: &[Arg], ys: &[Arg]) -> Ordering
     ensures { result ≡ slice_cmp arg_cmp xs.now ys.now }
 {
@@ -88,7 +103,9 @@ fn compare_atoms(xs: &[Atom], ys: &[Atom]) -> Ordering
     xs.len().cmp(&ys.len())
 }
 
-fn compare_terms(t: &Term, u: &Term) -> Ordering
+/// By the bytes of the texts, and of one text objects before values, and values by kind: text, int,
+/// bool, time.
+pub fn compare_terms(t: &Term, u: &Term) -> Ordering
     ensures { result ≡ term_cmp t.now u.now }
 {
     let texts = text(t).as_bytes().cmp(text(u).as_bytes());
