@@ -22,7 +22,7 @@ use Rattle.annotation_language.specs.declared.notes.KeySource.TheVariants.{Fixed
 use Rattle.annotation_language.specs.declared.notes.KeyNote.{KeyNote}
 use Rattle.annotation_language.specs.declared.notes.EventNote.{EventNote}
 use Rattle.annotation_language.specs.Grammar.{at_most, atom, of_one, of_two, of_any, key_line, annotation_line}
-use Rattle.annotation_language.specs.Judging.{first_broken}
+use Rattle.line_lexer.specs.Judging.{first_broken}
 use Rattle.annotation_language.specs.Lines.{Noted, nothing, is_bad_key, read_annotation_line, broken, grown}
 
 -- the model: a class Paper, an association writes, an attribute title of texts and one made of times

@@ -1,5 +1,4 @@
 pub mod Complete
 pub mod Written
 pub mod Grammar
-pub mod Judging
 pub mod Lines

@@ -33,7 +33,7 @@ use Rattle.annotation_language.specs.declared.notes.Annotations.{Annotations}
 use Rattle.annotation_language.specs.Complete.{has_key}
 use Rattle.annotation_language.specs.Written.{Argument, Blank, Variable, Constant, Iri, Atom, One, Two, Asked, Source, Answers, Is, Line, Case, CaseName, Event, Cases, Key, Query}
 use Rattle.annotation_language.specs.Grammar.{annotation_line}
-use Rattle.annotation_language.specs.Judging.{first_broken, read_by}
+use Rattle.line_lexer.specs.Judging.{first_broken, read_by}
 
 -- the variables of a query that can be asked by a name, which is `case` for the case query, in the order of their numbers
 pub record VariablesOf : Type 0 where

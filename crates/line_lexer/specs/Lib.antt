@@ -6,3 +6,4 @@ pub mod Lines
 pub mod Grammar
 pub mod Faults
 pub mod Runs
+pub mod Judging

@@ -1,5 +1,5 @@
 //! What a line may break, and what is counted.
-ghost use Rattle.std.specs.Prelude.{◌≡◌};
+ghost use Rattle.std.specs.Prelude.{◌≡◌, nat_lt};
 ghost use Rattle.line_lexer.specs.declared.fault.LineFault.TheVariants.{NoMemory};
 
 use std::alloc::{AllocError, AllocFailed};
@@ -92,6 +92,13 @@ impl Counted {
             Counted::Rewriting => 4_000,
             Counted::Steps => 5_000,
         }
+    }
+
+    /// The count passes its number.
+    pub fn is_passed_by(self, count: u32) -> bool
+        ensures { result ≡ nat_lt (limit_of self) count }
+    {
+        self.limit() < count as u64
     }
 }
 

@@ -34,7 +34,7 @@ use Rattle.mapping_facts.specs.declared.mapping.Mapping.{Mapping}
 use Rattle.mapping_language.specs.declared.sources.Sources.{Sources}
 use Rattle.mapping_language.specs.Written.{Cell, Other, OfCell, OfText, Condition, Same, Differs, Null, NotNull, Term, Iri, Column, Constant, Target, One, Two, MapLine}
 use Rattle.mapping_language.specs.Grammar.{map_line}
-use Rattle.mapping_language.specs.Judging.{first_broken, has_twice, read_by}
+use Rattle.line_lexer.specs.Judging.{first_broken, has_twice, read_by}
 use Rattle.mapping_language.specs.Tables.{table_number, table_named, column_number, column_named}
 
 abbrev pub same_kind : ValueKind → ValueKind → Bool

@@ -15,7 +15,7 @@ use Rattle.source_tables.specs.Tables.{col}
 use Rattle.mapping_language.specs.declared.sources.Sources.{Sources}
 use Rattle.mapping_language.specs.Written.{SourceLine, Table, Column, Key}
 use Rattle.mapping_language.specs.Grammar.{source_line}
-use Rattle.mapping_language.specs.Judging.{first_broken, has_twice, read_by}
+use Rattle.line_lexer.specs.Judging.{first_broken, has_twice, read_by}
 
 -- no tables and no mappings yet
 abbrev pub nothing : Sources

@@ -19,7 +19,7 @@ use Rattle.uml_model.specs.Lines.{model_line}
 use Rattle.uml_model.specs.Rules.{Known, read_parsed, nothing as no_model}
 use Rattle.mapping_language.specs.declared.sources.Sources.{Sources}
 use Rattle.mapping_language.specs.Grammar.{source_line, map_line}
-use Rattle.mapping_language.specs.Judging.{read_by}
+use Rattle.line_lexer.specs.Judging.{read_by}
 use Rattle.mapping_language.specs.Tables as tables
 use Rattle.mapping_language.specs.Mappings as mappings
 use Rattle.annotation_language.specs.Grammar.{annotation_line}

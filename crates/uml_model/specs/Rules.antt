@@ -1,10 +1,10 @@
 -- The rules of model lines, against what the lines before said.
-use Rattle.std.specs.Prelude.{◌<◌, not, ◌||◌, ℕ, Bool, false, List, [], ◌∷◌, ◌++◌, Option, Some, None, Result, Ok, Err, if◌then◌else◌, nat_lt, is_some, length, option_map}
+use Rattle.std.specs.Prelude.{◌<◌, not, ◌||◌, ℕ, Bool, false, List, [], ◌∷◌, ◌++◌, Option, Some, None, Result, Ok, Err, is_some, length, option_map}
 use Rattle.line_lexer.specs.Tokens.{Seen, tokens_of}
-use Rattle.line_lexer.specs.Faults.{limit_of}
 use Rattle.line_lexer.specs.Grammar.{either}
+use Rattle.line_lexer.specs.Judging.{first_broken, first_passed}
 use Rattle.line_lexer.specs.declared.fault.LineFault.{LineFault}
-use Rattle.line_lexer.specs.declared.fault.LineFault.TheVariants.{Syntax, Unknown, Double, TypeMismatch, Limit}
+use Rattle.line_lexer.specs.declared.fault.LineFault.TheVariants.{Syntax, Unknown, Double, TypeMismatch}
 use Rattle.line_lexer.specs.declared.fault.Counted.{Counted}
 use Rattle.line_lexer.specs.declared.fault.Counted.TheVariants.{Classes, Links, Axioms, Constraints}
 use Rattle.vocabulary.specs.Texts.{number_of}
@@ -121,24 +121,18 @@ grown s line = said (named s line) (stated s line)
 abbrev pub counts_of : Known → Counts
 counts_of s = record { classes = length s.classes; links = length s.links; axioms = length (axioms_of s.lines); constraints = length (constraints_of s.lines) }
 
--- the first count that passes its number
-abbrev pub first_passed : List (Counted × ℕ) → Option Counted
-first_passed [] = None
-first_passed (c ∷ cs) = if nat_lt (limit_of c.0) c.1 then Some c.0 else first_passed cs
+-- what is counted against limits, in the order of the table of limits
+abbrev pub counted : Counts → List (Counted × ℕ)
+counted counts = (Classes, counts.classes) ∷ (Links, counts.links) ∷ (Axioms, counts.axioms) ∷ (Constraints, counts.constraints) ∷ []
 
--- the first of the counts that passes its number, in the order classes, links, axioms, constraints
+-- the first of the counts that passes its number
 abbrev pub passed : Counts → Option Counted
-passed counts = first_passed ((Classes, counts.classes) ∷ (Links, counts.links) ∷ (Axioms, counts.axioms) ∷ (Constraints, counts.constraints) ∷ [])
-
--- the first rule that is broken, else the limit
-abbrev pub first_broken : List (Bool × LineFault) → Option Counted → Option LineFault
-first_broken [] limit = option_map Limit limit
-first_broken (rule ∷ rules) limit = if rule.0 then Some rule.1 else first_broken rules limit
+passed counts = first_passed (counted counts)
 
 -- the first rule that the line breaks, the limits last: with the line no count passes its number
 unfoldable pub broken : Known → Line → Option LineFault
 broken s line = first_broken ((unknown s line, Unknown) ∷ (double s line, Double) ∷ (mismatch s line, TypeMismatch) ∷ [])
-    (passed (counts_of (grown s line)))
+    (counted (counts_of (grown s line)))
 
 -- what is known with a line of the grammar, or its first fault
 abbrev pub judged : Known → Line → Option LineFault → Result Known LineFault
