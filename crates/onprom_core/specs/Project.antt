@@ -1,5 +1,5 @@
 -- A project text: its lines in order, up to the first that has a fault.
-use Rattle.std.specs.Prelude.{ℕ, ◌+◌, ◌==◌, Bool, true, false, List, [], ◌∷◌, Option, Some, None, Result, Ok, Err, if◌then◌else◌, length, nat_lt, take, codes, is_some, count_by, option_map, option_and_then, slice_get}
+use Rattle.std.specs.Prelude.{ℕ, ◌+◌, ◌==◌, Bool, true, false, List, [], ◌∷◌, Option, Some, None, Result, Ok, Err, if◌then◌else◌, length, nat_lt, take, codes, is_some, count_by}
 use Rattle.std.specs.List.{list_any}
 use Rattle.std.specs.Str.{is_utf8}
 use Rattle.std.specs.Str.Lossy.{utf8_valid_len}
@@ -11,12 +11,8 @@ use Rattle.line_lexer.specs.declared.fault.LineFault.{LineFault}
 use Rattle.line_lexer.specs.declared.fault.LineFault.TheVariants as line_fault
 use Rattle.line_lexer.specs.declared.fault.Counted.{Counted}
 use Rattle.line_lexer.specs.declared.fault.Counted.TheVariants.{Lines}
-use Rattle.vocabulary.specs.Texts.{number_of}
-use Rattle.vocabulary.specs.declared.ids.ClassId.{ClassId}
-use Rattle.vocabulary.specs.declared.ids.LinkId.{LinkId}
-use Rattle.vocabulary.specs.declared.ids.Side.{Side}
 use Rattle.uml_model.specs.Lines.{model_line}
-use Rattle.uml_model.specs.Rules.{Known, read_parsed, nothing as no_model}
+use Rattle.uml_model.specs.Rules.{Known, class_named, link_named, read_parsed, nothing as no_model}
 use Rattle.mapping_language.specs.declared.sources.Sources.{Sources}
 use Rattle.mapping_language.specs.Grammar.{source_line, map_line}
 use Rattle.line_lexer.specs.Judging.{read_by}
@@ -78,14 +74,6 @@ map_ok f (Err fault) = Err fault
 abbrev pub bad_line : List ℕ → ℕ
 bad_line bytes = count_by (λ b. b == 10) (take (utf8_valid_len bytes) bytes) + 1
 
--- the class of a name
-abbrev pub class_of : Known → List ℕ → Option ClassId
-class_of model text = option_map (λ n. record { 0 = n }) (number_of model.classes text)
-
--- the link of a name, with the sort of its second place
-abbrev pub link_of : Known → List ℕ → Option (LinkId × Side)
-link_of model text = option_and_then (λ n. option_map (λ side. (record { 0 = n }, side)) (slice_get model.sides n)) (number_of model.links text)
-
 -- nothing yet
 abbrev pub nothing : Project
 nothing = record { sources = tables.nothing; model = no_model; noted = notes.nothing }
@@ -104,13 +92,13 @@ read_source p tokens = with_sources p (read_by source_line (tables.broken p.sour
 
 abbrev pub read_mapping : Project → List Seen → Result Project LineFault
 read_mapping p tokens = with_sources p (read_by map_line
-    (mappings.broken (class_of p.model) (link_of p.model) p.sources)
-    (mappings.grown (class_of p.model) (link_of p.model) p.sources) p.sources (Some tokens))
+    (mappings.broken (class_named p.model) (link_named p.model) p.sources)
+    (mappings.grown (class_named p.model) (link_named p.model) p.sources) p.sources (Some tokens))
 
 abbrev pub read_note : ℕ → Project → List Seen → Result Project LineFault
 read_note number p tokens = with_notes p (read_by annotation_line
-    (notes.broken (class_of p.model) (link_of p.model) p.noted)
-    (notes.grown (class_of p.model) (link_of p.model) number p.noted) p.noted (Some tokens))
+    (notes.broken (class_named p.model) (link_named p.model) p.noted)
+    (notes.grown (class_named p.model) (link_named p.model) number p.noted) p.noted (Some tokens))
 
 -- a line behind `onprom 1`, which may not come again; what begins with no word of another line is a model line or Syntax
 abbrev pub read_tokens : ℕ → Project → List Seen → Result Project LineFault

@@ -3,7 +3,7 @@ ghost use Rattle.std.specs.Prelude.{◌≡◌, ◌<◌, ◌≤◌, false, None, 
 ghost use Rattle.std.specs.Option.{IfSome};
 ghost use Rattle.vocabulary.specs.Texts.{number_of};
 ghost use Rattle.uml_model.specs.Lines.{shown};
-ghost use Rattle.uml_model.specs.Rules.{nothing, IsNumbered, element_of, is_class, is_declared, class_of, next_class, next_link, stated, with_link, named, said, grown, counts_of, passed, double};
+ghost use Rattle.uml_model.specs.Rules.{nothing, IsNumbered, element_of, is_class, is_declared, class_of, next_class, next_link, stated, class_named, link_named, with_link, named, said, grown, counts_of, passed, double};
 
 use crate::counts::Counts;
 use crate::line::ModelLine;
@@ -69,6 +69,27 @@ impl Model {
         }
         match self.links.find(name) {
             Some(link) => Some(Element::Link(LinkId(link))),
+            None => None,
+        }
+    }
+
+    /// The class of this name.
+    pub fn class_named(&self, name: &str) -> Option<ClassId>
+        ensures { result ≡ class_named self.now name.now }
+    {
+        match self.classes.find(name) {
+            Some(class) => Some(ClassId(class)),
+            None => None,
+        }
+    }
+
+    /// The link of this name, with the sort of its second place, which is Object for an association.
+    pub fn link_named(&self, name: &str) -> Option<(LinkId, Side)>
+        ensures { result ≡ link_named self.now name.now }
+    {
+        let link = self.links.find(name)?;
+        match self.sides.get(link as usize) {
+            Some(side) => Some((LinkId(link), *side)),
             None => None,
         }
     }
