@@ -138,7 +138,8 @@ fn fills_holes_with_escaped_texts(rt: HostRuntime) {
         let text = fill(alloc, &one, &[cell]).expect(&rt, "memory");
         assert_eq!(rt; text.as_str(), want);
     }
-    let two = template(&rt, alloc, "/p/{x}/{y}");
+    let read = template(&rt, alloc, "/p/{x}/{y}");
+    let two = read.copy(alloc).expect(&rt, "memory");
     let text = fill(alloc, &two, &[Some("1"), Some("a b")]).expect(&rt, "memory");
     assert_eq!(rt; text.as_str(), "/p/1/a%20b");
 }
