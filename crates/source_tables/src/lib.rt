@@ -7,4 +7,4 @@ mod table;
 
 pub use decl::{ColumnDecl, TableDecl};
 pub use fault::TableFault;
-pub use table::Table;
+pub use table::{Table, have_texts};
