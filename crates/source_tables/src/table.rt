@@ -1,11 +1,13 @@
 //! Loaded tables.
-ghost use Rattle.std.specs.Prelude.{◌≡◌, ◌≤◌, [], None, length, get_or, nat_eq};
+ghost use Rattle.std.specs.Prelude.{◌≡◌, ◌≢◌, ◌≤◌, ◌*◌, [], None, length, get_or, nat_eq, IfOk};
 ghost use Rattle.std.specs.List.{All, list_all, list_any};
 ghost use Rattle.std.specs.Option.{option_copied};
-ghost use Rattle.source_tables.specs.Tables.{HasTexts, has_key_in};
+ghost use Rattle.source_tables.specs.Cells.{HasText};
+ghost use Rattle.source_tables.specs.Tables.{HasTexts, cut_rows, has_key_in};
 
 use crate::TableDecl;
 use cell_store::Cells;
+use std::alloc::{AllocError, Global};
 use std::marker::Model;
 use vocabulary::{ColId, List};
 
@@ -45,6 +47,23 @@ fn are_among(key: &[ColId], cols: &[ColId]) -> bool
 }
 
 impl Table {
+    /// The table of cells that fill so many rows.
+    pub(crate) fn of_cells(
+        alloc: Global,
+        decl: &TableDecl,
+        cells: Cells,
+        rows: u32,
+    ) -> Result<Table, AllocError>
+        requires most { rows ≤ 1_000_000 }
+        requires long { length cells.cells ≡ rows * length decl.now.columns }
+        requires cols { length decl.now.columns ≢ 0 → cells.cols ≡ length decl.now.columns }
+        requires texts { All HasText cells.cells }
+        ensures { IfOk result (λ t. t ≡ record { decl = decl.now; rows = cut_rows rows (length decl.now.columns) cells.cells }) }
+    {
+        let decl = decl.copy(alloc)?;
+        Ok(Table { decl, cells, rows })
+    }
+
     pub fn decl(&self) -> &TableDecl
         ensures { result.now ≡ self.now.decl }
     {

@@ -1,15 +1,17 @@
 //! The values of fields.
-ghost use Rattle.std.specs.Prelude.{◌≡◌, IfOk};
+ghost use Rattle.std.specs.Prelude.{◌≡◌, ℕ, List, Some, true, IfOk};
 ghost use Rattle.std.specs.Option.{option_copied};
 ghost use Rattle.std.specs.Str.{IsAscii};
 ghost use Rattle.jiff_core.specs.Calendar.{IsWithin};
 ghost use Rattle.civil_values.specs.Numbers.{int_canonical};
-ghost use Rattle.civil_values.specs.Texts.{text_canonical};
+ghost use Rattle.civil_values.specs.Texts.{is_cell_text, text_canonical};
 ghost use Rattle.civil_values.specs.TimeReader.{time_canonical};
 ghost use Rattle.civil_values.specs.Truth.{bool_canonical};
 ghost use Rattle.source_tables.specs.Cells.{canonical};
 
-use civil_values::{is_text, read_bool, read_int, read_time, write_int, write_time};
+use civil_values::{
+    canonical_texts_are_cell_texts, is_text, read_bool, read_int, read_time, write_int, write_time,
+};
 use std::alloc::{AllocError, Global};
 use vocabulary::{Name, ValueKind};
 
@@ -70,8 +72,7 @@ fn text_of_time<'a>(text: &str, offset: i32, room: &'a mut [u8; 29]) -> Option<&
     Some(ascii_text(room))
 }
 
-// The canonical text, which lies in the text itself or in the room.
-pub(crate) fn canonical_text<'a>(
+fn text_of_kind<'a>(
     kind: ValueKind,
     text: &'a str,
     offset: i32,
@@ -86,6 +87,21 @@ pub(crate) fn canonical_text<'a>(
         ValueKind::Bool => text_of_bool(text),
         ValueKind::Time => text_of_time(text, offset, &mut room.time),
     }
+}
+
+// The canonical text, which lies in the text itself or in the room.
+pub(crate) fn canonical_text<'a>(
+    kind: ValueKind,
+    text: &'a str,
+    offset: i32,
+    room: &'a mut Room,
+) -> Option<&'a str>
+    requires { IsWithin 840 offset }
+    ensures value { option_copied result ≡ canonical offset kind text.now }
+    ensures cell { (written : List ℕ) → canonical offset kind text.now ≡ Some written → is_cell_text written ≡ true }
+{
+    canonical_texts_are_cell_texts();
+    text_of_kind(kind, text, offset, room)
 }
 
 /// The canonical text of a value, if the text is one of its kind. The empty text is none. Where a time
