@@ -182,6 +182,7 @@ pub fn load(alloc: Global, decl: &TableDecl, bytes: &[u8]) -> Result<Table, Tabl
     ensures table { IfOk result (λ t. table_of decl.now bytes.now ≡ Ok t) }
     ensures fault { IfErr result (λ e. e ≢ NoMemory → table_of decl.now bytes.now ≡ Err e) }
 {
+    // columns have numbers of 32 bits, and more would not fit the memory
     if decl.columns.len() > u32::MAX as usize {
         return Err(TableFault::NoMemory);
     }
