@@ -1,2 +1,4 @@
 pub mod Cells
 pub mod Tables
+pub mod Reading
+pub mod Loading

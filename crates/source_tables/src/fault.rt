@@ -1,4 +1,8 @@
 //! Why a file is no table.
+ghost use Rattle.std.specs.Prelude.{◌≡◌};
+ghost use Rattle.source_tables.specs.declared.fault.TableFault.TheVariants.{NoMemory};
+
+use std::alloc::{AllocError, AllocFailed};
 use vocabulary::ColId;
 
 /// The first fault of a file under a declaration. Rows count from 1, and row 0 is the header.
@@ -20,4 +24,20 @@ pub enum TableFault {
     DoubleKey(u32, u32),
     TooManyRows,
     NoMemory,
+}
+
+impl From<AllocError> for TableFault {
+    ghost from_gives = { λ _ e. e ≡ NoMemory };
+
+    fn from(_: AllocError) -> Self {
+        TableFault::NoMemory
+    }
+}
+
+impl<T: Drop> From<AllocFailed<T>> for TableFault {
+    ghost from_gives = { λ _ e. e ≡ NoMemory };
+
+    fn from(_: AllocFailed<T>) -> Self {
+        TableFault::NoMemory
+    }
 }

@@ -3,8 +3,19 @@
 
 mod decl;
 mod fault;
+mod header;
+mod key;
+mod loading;
+mod records;
+mod row;
 mod table;
+mod value;
 
 pub use decl::{ColumnDecl, TableDecl};
 pub use fault::TableFault;
-pub use table::Table;
+pub use loading::load;
+pub use table::{Table, have_texts};
+pub use value::read_value;
+
+#[cfg(test)]
+mod tests;
