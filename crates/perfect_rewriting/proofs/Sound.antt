@@ -19,7 +19,9 @@ use Rattle.queries.specs.declared.query.Arg.{Arg}
 use Rattle.queries.specs.declared.query.Arg.TheVariants.{Blank, Var, Fixed}
 use Rattle.queries.specs.declared.query.Atom.{Atom}
 use Rattle.queries.specs.declared.query.Atom.TheVariants.{InClass as ClassAtom, Linked as LinkAtom}
-use Rattle.queries.specs.Changes.{Change, Keep, Put, changed, changed_atom, Meets, blank_left, blank_right, same_var, left_lower, right_lower, var_left, var_right, same_fixed, AtomsMeet, class_meet, link_meet, UnifyStep, unify}
+use Rattle.queries.specs.declared.unify.Change.{Change}
+use Rattle.queries.specs.declared.unify.Change.TheVariants.{Keep, Put}
+use Rattle.queries.specs.Changes.{changed, changed_atom, Meets, blank_left, blank_right, same_var, left_lower, right_lower, var_left, var_right, same_fixed, AtomsMeet, class_meet, link_meet, UnifyStep, unify}
 use Rattle.queries.specs.Matches.{Terms, ArgIs, AtomIs, HeadIs}
 use Rattle.certain_semantics.specs.Witnesses.{Held}
 use Rattle.perfect_rewriting.specs.Steps.{atom_of, Replaces, by_basics, RuleStep, rule}

@@ -14,6 +14,7 @@ use Rattle.queries.specs.Occurrences.{KnownConstants, HeadStands}
 use Rattle.certain_semantics.specs.Certain.{IsCertain}
 use Rattle.certain_semantics.specs.Witnesses.{Held}
 use Rattle.perfect_rewriting.specs.Reach.{Reach}
+use Rattle.perfect_rewriting.specs.Rewriting.{KeepsShape}
 use Rattle.perfect_rewriting.specs.Steps.{Replaces, RuleStep, replaced_by}
 
 -- an atom may be replaced by another exactly where some axiom makes the other of it
@@ -32,6 +33,10 @@ UnifyStepIsSound = (axioms : List Axiom) (facts : List Fact) (σ : Terms) (head 
 -- each member's head stands, as the query's does
 abbrev pub ReachKeepsHeads : Type 0
 ReachKeepsHeads = (axioms : List Axiom) (q m : Query) → KnownConstants q → HeadStands q → Reach axioms q m → HeadStands m
+
+-- each member has at most as many atoms as the query, as many head places, and a head that stands where the query's does
+abbrev pub ReachKeepsShape : Type 0
+ReachKeepsShape = (axioms : List Axiom) (q m : Query) → Reach axioms q m → KeepsShape q m
 
 -- over known facts a tuple is a certain answer exactly where a member of the reach matches in the facts themselves and its head goes to the tuple
 abbrev pub ReachIsExact : Type 0

@@ -1,5 +1,5 @@
 //! The laws of the rewriting. Each function's clause is the law; the bodies do nothing.
-ghost use Rattle.perfect_rewriting.specs.Laws.{ReachIsExact, ReachKeepsHeads, ReplacementIsComputed, RuleStepIsSound, UnifyStepIsSound};
+ghost use Rattle.perfect_rewriting.specs.Laws.{ReachIsExact, ReachKeepsHeads, ReachKeepsShape, ReplacementIsComputed, RuleStepIsSound, UnifyStepIsSound};
 
 /// The atoms by which axioms let an atom be replaced are those that `replace_atom` gives.
 pub fn replacement_is_computed()
@@ -20,6 +20,12 @@ pub fn unify_is_sound()
 /// its reach.
 pub fn reach_keeps_heads()
     ensures { ReachKeepsHeads }
+{}
+
+/// No member of the reach has more atoms than the query or another number of head places, so what
+/// `check` bounds stays within its bounds.
+pub fn reach_keeps_shape()
+    ensures { ReachKeepsShape }
 {}
 
 /// The matches of the reach in known facts give exactly the certain answers over them, whatever

@@ -1,5 +1,5 @@
 -- The definitions, evaluated on small queries.
-use Rattle.std.proofs.Common.{ℕ, ◌≡◌, refl, ap, arith, List, [], ◌∷◌}
+use Rattle.std.proofs.Common.{ℕ, ◌≡◌, refl, ap, arith, List, [], ◌∷◌, Some, None}
 use Rattle.std.specs.declared.cmp.Ordering.TheVariants.{Less, Greater}
 use Rattle.vocabulary.specs.declared.ids.ClassId.{ClassId}
 use Rattle.vocabulary.specs.declared.ids.LinkId.{LinkId}
@@ -14,7 +14,12 @@ use Rattle.queries.specs.declared.query.Arg.TheVariants.{Blank, Var, Fixed}
 use Rattle.queries.specs.declared.query.Atom.{Atom}
 use Rattle.queries.specs.declared.query.Atom.TheVariants.{InClass, Linked}
 use Rattle.queries.specs.declared.query.Query.{Query}
-use Rattle.queries.specs.Changes.{Keep, Put, changed, Meets, same_fixed, blank_right, left_lower, link_meet, same_var, substituted, UnifyStep, unify}
+use Rattle.queries.specs.declared.check.QueryFault.TheVariants.{MixedSort, HeadUnbound}
+use Rattle.queries.specs.Checking.{args_of, different, query_fault}
+use Rattle.queries.specs.Unifying.{unify_at}
+use Rattle.vocabulary.specs.declared.ids.Side.TheVariants.{Value as ValueSide}
+use Rattle.queries.specs.declared.unify.Change.{Change}
+use Rattle.queries.specs.Changes.{Meets, same_fixed, blank_right, left_lower, link_meet, substituted, UnifyStep, unify}
 use Rattle.queries.specs.Matches.{Terms, IsMatch}
 use Rattle.queries.specs.Normal.{normal_form}
 use Rattle.queries.specs.Order.{arg_cmp, atom_cmp, query_cmp}
@@ -115,7 +120,7 @@ first_or_none [] = 0
 first_or_none (x ∷ xs) = x
 
 -- two different constants do not meet
-never_meet : (c : Rattle.queries.specs.Changes.Change) (z : Arg) → Meets (iri (97 ∷ [])) (iri (98 ∷ [])) c z → ⊥
+never_meet : (c : Change) (z : Arg) → Meets (iri (97 ∷ [])) (iri (98 ∷ [])) c z → ⊥
 never_meet c z (same_fixed e) = let n : first_or_none (text_of (Named (97 ∷ []))) ≡ first_or_none (text_of (Named (98 ∷ []))) = ap (λ t. first_or_none (text_of t)) e in absurd (omega (arith, n))
 
 -- a Blank is any term, a variable one term, and the head is its image
@@ -132,3 +137,28 @@ found = record { atoms = each; head = (refl, tt) }
     each k (here e) = (LinkFact (link 0) a b, here refl, rw (← e) (refl, refl, tt))
     each k (there (here e)) = (ClassFact (class 0) a, there (here refl), rw (← e) (refl, refl))
     each k (there (there m)) = elim m [ ]
+
+-- p(x, x) and p(y, _), at their places
+meet_at_places : unify_at (query (var 1 ∷ []) (Linked (link 0) (var 0) (var 0) ∷ Linked (link 0) (var 1) Blank ∷ [])) 1 0 ≡ Some (query (var 0 ∷ []) (Linked (link 0) (var 0) (var 0) ∷ []))
+meet_at_places = refl
+
+-- the first arguments' change is done to the second ones: p(x, x) and p(a, b) do not unify
+change_goes_on : unify_at (query [] (Linked (link 0) (var 0) (var 0) ∷ Linked (link 0) (iri (97 ∷ [])) (iri (98 ∷ [])) ∷ [])) 0 1 ≡ None
+change_goes_on = refl
+
+-- x is of times at its link and an object in a class, and y is in no atom: the first fault
+mixed_first : query_fault (ValueSide Time ∷ []) (query (var 1 ∷ []) (InClass (class 0) (var 0) ∷ Linked (link 0) Blank (var 0) ∷ [])) ≡ Some MixedSort
+mixed_first = refl
+
+two_kinds : query_fault (ValueSide Time ∷ ValueSide Int ∷ []) (query [] (Linked (link 0) Blank (var 0) ∷ Linked (link 1) Blank (var 0) ∷ [])) ≡ Some MixedSort
+two_kinds = refl
+
+unbound : query_fault [] (query (var 0 ∷ var 1 ∷ []) (InClass (class 0) (var 0) ∷ [])) ≡ Some HeadUnbound
+unbound = refl
+
+blank_in_head : query_fault [] (query (Blank ∷ []) (InClass (class 0) Blank ∷ [])) ≡ Some HeadUnbound
+blank_in_head = refl
+
+-- blanks are no variables, and a variable is one wherever it stands
+three_variables : different (var 2 ∷ args_of (Linked (link 0) (var 1) Blank ∷ Linked (link 0) (var 1) (var 0) ∷ InClass (class 0) (var 2) ∷ [])) ≡ 3
+three_variables = refl

@@ -237,5 +237,22 @@ normal_no_lone q v =
       | inr n ↦ inr (λ e. n (sym (order_count v (settled q.head q.atoms)) ∙ e))
     ]
 
+-- no atoms are added
+times_length : (n : ℕ) (head : List Arg) (atoms : List Atom) → length (tidied_times n head atoms) ≤ length atoms
+times_length zero head atoms = omega arith
+times_length (suc n) head atoms = omega (arith, times_length n head (tidied head atoms), tidied_length head atoms)
+
+put_length : (a : Atom) (atoms : List Atom) → length (put_in a atoms) ≡ suc (length atoms)
+put_length a [] = refl
+put_length a (b ∷ atoms) =
+    elim (atom_le a b) as (λ t. length (if t then a ∷ b ∷ atoms else b ∷ put_in a atoms) ≡ suc (suc (length atoms))) [ true ↦ refl | false ↦ ap suc (put_length a atoms) ]
+
+order_length : (atoms : List Atom) → length (in_order atoms) ≡ length atoms
+order_length [] = refl
+order_length (a ∷ atoms) = put_length a (in_order atoms) ∙ ap suc (order_length atoms)
+
+pub normal_length : (q : Query) → length (normal_form q).atoms ≤ length q.atoms
+normal_length q = omega (arith, order_length (settled q.head q.atoms), times_length (length q.atoms + 1) q.head q.atoms)
+
 pub tidying_settles : TidyingSettles
-tidying_settles = record { stays = settles; none_lone = normal_no_lone }
+tidying_settles = record { stays = settles; none_lone = normal_no_lone; no_longer = normal_length }

@@ -10,11 +10,8 @@ use Rattle.queries.specs.declared.query.Arg.TheVariants.{Blank, Var, Fixed}
 use Rattle.queries.specs.declared.query.Atom.{Atom}
 use Rattle.queries.specs.declared.query.Atom.TheVariants.{InClass, Linked}
 use Rattle.queries.specs.declared.query.Query.{Query}
-
--- nothing is replaced, or a variable by an argument
-pub data Change : Type 0 where
-  Keep : Change
-  Put : VarId → Arg → Change
+use Rattle.queries.specs.declared.unify.Change.{Change}
+use Rattle.queries.specs.declared.unify.Change.TheVariants.{Keep, Put}
 
 abbrev pub changed : Change → Arg → Arg
 changed Keep x = x

@@ -1,12 +1,16 @@
 //! Conjunctive queries: their order, normal form, and the steps that replace variables.
 #![tactic(auto)]
 
+mod check;
 pub mod laws;
 mod normal;
 mod order;
 mod query;
 mod replace;
 mod tidy;
+mod unify;
 
+pub use check::QueryFault;
 pub use order::{compare_terms, compare_tuples};
 pub use query::{Arg, Atom, Query};
+pub use unify::{Change, Meeting, Union};

@@ -1,6 +1,7 @@
 //! Replacing a variable.
 ghost use Rattle.std.specs.Prelude.{◌≡◌, IfOk, map};
-ghost use Rattle.queries.specs.Changes.{Put, changed, changed_atom, substituted};
+ghost use Rattle.queries.specs.Changes.{changed, changed_atom, substituted};
+ghost use Rattle.queries.specs.declared.unify.Change.TheVariants.{Put};
 
 use crate::{Arg, Atom, Query};
 use std::alloc::{AllocError, Global};
@@ -51,7 +52,12 @@ fn replace_in_atoms(
     Ok(out)
 }
 
-fn replace_in_atom(alloc: Global, var: VarId, by: &Arg, atom: &Atom) -> Result<Atom, AllocError>
+pub(crate) fn replace_in_atom(
+    alloc: Global,
+    var: VarId,
+    by: &Arg,
+    atom: &Atom,
+) -> Result<Atom, AllocError>
     ensures { IfOk result (λ a. a ≡ changed_atom (Put var by.now) atom.now) }
 {
     match atom {
@@ -63,7 +69,7 @@ fn replace_in_atom(alloc: Global, var: VarId, by: &Arg, atom: &Atom) -> Result<A
     }
 }
 
-fn replace(alloc: Global, var: VarId, by: &Arg, arg: &Arg) -> Result<Arg, AllocError>
+pub(crate) fn replace(alloc: Global, var: VarId, by: &Arg, arg: &Arg) -> Result<Arg, AllocError>
     ensures { IfOk result (λ x. x ≡ changed (Put var by.now) arg.now) }
 {
     match arg {

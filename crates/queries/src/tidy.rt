@@ -65,7 +65,7 @@ fn blanked(alloc: Global, arg: &Arg, head: &[Arg], atoms: &[Atom]) -> Result<Arg
     }
 }
 
-fn count_of(v: VarId, atoms: &[Atom]) -> usize
+pub(crate) fn count_of(v: VarId, atoms: &[Atom]) -> usize
     requires { length atoms.now < 2 ^ 32 }
     ensures { result ≡ count v atoms.now }
 {
@@ -76,7 +76,7 @@ fn count_of(v: VarId, atoms: &[Atom]) -> usize
     times
 }
 
-fn head_count_of(v: VarId, head: &[Arg]) -> usize
+pub(crate) fn head_count_of(v: VarId, head: &[Arg]) -> usize
     requires { length head.now < 2 ^ 32 }
     ensures { result ≡ head_count v head.now }
 {
@@ -88,7 +88,7 @@ fn head_count_of(v: VarId, head: &[Arg]) -> usize
 }
 
 impl Arg {
-    fn occurrences(&self, v: VarId) -> usize
+    pub(crate) fn occurrences(&self, v: VarId) -> usize
         ensures value { result ≡ occurs v self.now }
         ensures most { result < 2 }
     {
@@ -100,7 +100,7 @@ impl Arg {
 }
 
 impl Atom {
-    fn occurrences(&self, v: VarId) -> usize
+    pub(crate) fn occurrences(&self, v: VarId) -> usize
         ensures value { result ≡ atom_occurs v self.now }
         ensures most { result < 3 }
     {
