@@ -1,3 +1,4 @@
+pub mod Defined
 pub mod Facts
 pub mod Fits
 pub mod RowQueries
