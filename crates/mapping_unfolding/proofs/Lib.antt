@@ -1,0 +1,5 @@
+pub mod Adding
+pub mod Beside
+pub mod Cells
+pub mod Texts
+pub mod Whole
