@@ -2,7 +2,7 @@
 use Rattle.std.proofs.Common.{ℕ, ◌≡◌, refl, sym, ◌∙◌, ap, subst, List, [], ◌∷◌, ◌++◌, Option, Some, None, ◌⊎◌, inl, inr, nat_eq, if◌then◌else◌, Bool, true, false, All}
 use Rattle.std.specs.Prelude.{option_map, IfSome}
 use Rattle.std.proofs.lemmas.Bool.{eqb-true, eq-eqb}
-use Rattle.std.proofs.lemmas.List.Elements.{All-append, All-cons, All-nil}
+use Rattle.std.proofs.lemmas.List.Elements.{All-append, All-cons, All-head, All-nil, All-push, All-tail}
 use Rattle.vocabulary.specs.declared.ids.VarId.{VarId}
 use Rattle.vocabulary.specs.declared.term.Term.{Term}
 use Rattle.queries.specs.declared.query.Arg.{Arg}
@@ -17,7 +17,7 @@ use Rattle.mapping_facts.specs.Fits.{ConditionFits, IsTextCell, PlaceFits, TermF
 use Rattle.mapping_facts.proofs.Tuples.{AllHold, CellsAt, all_hold, hold_all}
 use Rattle.mapping_unfolding.specs.declared.draft.Binding.{Binding}
 use Rattle.mapping_unfolding.specs.declared.draft.Draft.{Draft}
-use Rattle.mapping_unfolding.specs.Drafts.{FitsIn, Puts, PutsEqual, PutsVar, bind, lookup, restricted}
+use Rattle.mapping_unfolding.specs.Drafts.{AreWhole, FitsIn, Puts, PutsEqual, PutsVar, bind, lookup, restricted}
 use Rattle.mapping_unfolding.specs.Equating.{Decides, IsWhole, term_places}
 use Rattle.mapping_unfolding.proofs.Cells.{all_append, all_left, all_right, mapped_some, some_is}
 
@@ -223,3 +223,16 @@ put_keeps d e (Fixed u) r p = (equal_keeps d e (FixedTerm u) r p).0
 
 pub put_binds : (d e : Draft) (x : Arg) (r : RowTerm) → Puts x r d (Some e) → (v : VarId) → x ≡ Var v → Bound e v
 put_binds d e x r p v i = var_binds d e v r (lookup v d.bound) refl (subst (λ z. Puts z r d (Some e)) i p)
+
+-- each bound row term has one place for each hole
+whole_cases : (b : Bool) (x r : RowTerm) (o : Option RowTerm) → IsWhole x → (o ≡ Some r → IsWhole r) → (if b then Some x else o) ≡ Some r → IsWhole r
+whole_cases true x r o w f h = subst IsWhole (some_is x r h) w
+whole_cases false x r o w f h = f h
+
+pub lookup_whole : (v : VarId) (bound : List Binding) (r : RowTerm) → All (λ b. IsWhole b.term) bound → lookup v bound ≡ Some r → IsWhole r
+lookup_whole v [] r w h = cc
+lookup_whole v (b ∷ bs) r w h =
+    whole_cases (nat_eq b.var.0 v.0) b.term r (lookup v bs) (All-head (λ z. IsWhole z.term) b bs w) (lookup_whole v bs r (All-tail (λ z. IsWhole z.term) b bs w)) h
+
+pub bind_whole : (v : VarId) (r s : RowTerm) (d e : Draft) → AreWhole d → IsWhole r → s ≡ r → e ≡ bind v s d → AreWhole e
+bind_whole v r s d e w x q h = subst AreWhole (sym h) (All-push (λ b. IsWhole b.term) d.bound (pair v s) w (subst IsWhole (sym q) x))

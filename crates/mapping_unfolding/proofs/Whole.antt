@@ -52,7 +52,7 @@ module _ (mappings : List Mapping) (fit : AreFit mappings) (o : Origin) (m : Map
   named_target : In g m.targets
   named_target = In-slice_get m.targets o.target g names.1
 
-  named_fits : SourceFits m.query g
+  pub named_fits : SourceFits m.query g
   named_fits =
       let w = All-In MappingFits mappings fit.each named_mapping in
       (w.query, All-In (TargetFits (length m.query.tables)) m.targets w.targets named_target)

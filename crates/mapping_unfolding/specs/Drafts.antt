@@ -1,5 +1,5 @@
 -- Drafts of row queries, atom by atom.
-use Rattle.std.specs.Prelude.{ℕ, ◌≡◌, List, [], ◌∷◌, ◌++◌, length, map, filter_map, Option, Some, None, option_map, nat_eq, if◌then◌else◌, ◌⊎◌, All}
+use Rattle.std.specs.Prelude.{ℕ, ◌≡◌, ◌≤◌, ◌*◌, List, [], ◌∷◌, ◌++◌, length, map, filter_map, Option, Some, None, option_map, nat_eq, if◌then◌else◌, ◌⊎◌, All}
 use Rattle.std.specs.Bool.{MatchBool}
 use Rattle.vocabulary.specs.declared.ids.VarId.{VarId}
 use Rattle.vocabulary.specs.declared.term.Fact.{Fact}
@@ -19,13 +19,13 @@ use Rattle.mapping_facts.specs.declared.mapping.Target.TheVariants.{InClass as C
 use Rattle.mapping_facts.specs.declared.mapping.Mapping.{Mapping}
 use Rattle.mapping_facts.specs.Defined.{defined_target}
 use Rattle.mapping_facts.specs.Facts.{fact_at, mapped_facts, term_at}
-use Rattle.mapping_facts.specs.Fits.{ConditionFits, HaveTexts, TermFits}
+use Rattle.mapping_facts.specs.Fits.{AreFit, ConditionFits, HaveTexts, TermFits}
 use Rattle.mapping_facts.specs.Tuples.{cell_of, tuples}
 use Rattle.mapping_unfolding.specs.declared.draft.Binding.{Binding}
 use Rattle.mapping_unfolding.specs.declared.draft.Draft.{Draft}
 use Rattle.mapping_unfolding.specs.declared.draft.Origin.{Origin}
 use Rattle.mapping_unfolding.specs.declared.unfolded.Unfolded.{Unfolded}
-use Rattle.mapping_unfolding.specs.Equating.{Equates}
+use Rattle.mapping_unfolding.specs.Equating.{Equates, IsWhole}
 use Rattle.mapping_unfolding.specs.Shifts.{shifted_condition, shifted_term}
 use Rattle.mapping_unfolding.specs.Unfoldings.{Names}
 
@@ -33,6 +33,10 @@ use Rattle.mapping_unfolding.specs.Unfoldings.{Names}
 abbrev pub lookup : VarId → List Binding → Option RowTerm
 lookup v [] = None
 lookup v (b ∷ bs) = if nat_eq b.var.0 v.0 then Some b.term else lookup v bs
+
+-- each row term has one place for each hole
+abbrev pub AreWhole : Draft → Type 0
+AreWhole d = All (λ b. IsWhole b.term) d.bound
 
 -- one more variable
 abbrev pub bind : VarId → RowTerm → Draft → Draft
@@ -117,9 +121,28 @@ abbrev pub HasTarget : List Mapping → Atom → List Atom → Draft → SourceQ
 HasTarget mappings a atoms d q drafts g = DraftFits d → (tables : List Loaded) → HaveTexts tables → (σ : Terms) (rows own : List ℕ) (f : Fact) → StandsAt tables σ d rows →
     In own (tuples tables q) → fact_at (cell_of tables q.tables own) g ≡ Some f → AtomIs σ a f → Matched (mapped_facts mappings tables) σ atoms → Among tables σ drafts
 
+-- the same for a first atom whose fact this mapping gives
+abbrev pub HasMapping : List Mapping → Atom → List Atom → Draft → List Draft → Mapping → Type 0
+HasMapping mappings a atoms d drafts m = All (HasTarget mappings a atoms d m.query drafts) m.targets
+
+-- no draft is lost
+abbrev pub Kept : List Draft → List Draft → Type 0
+Kept old new = (u : Draft) → In u old → In u new
+
 -- each draft is an old one, or unfolds the atoms
 abbrev pub OnlyUnfold : List Mapping → List Atom → Draft → List Draft → List Draft → Type 0
 OnlyUnfold mappings atoms d old new = (u : Draft) → In u new → In u old ⊎ ((os : List Origin) × Unfolds mappings atoms d os u)
+
+-- a draft for at most all of sixteen atoms, which mappings that fit have made
+pub record IsReady (mappings : List Mapping) (atoms : List Atom) (d : Draft) : Type 0 where
+  pub fit : AreFit mappings
+  pub few : length atoms ≤ 16
+  pub within : length d.origins ≤ length atoms
+  pub narrow : length d.query.tables ≤ 6 * length d.origins
+  pub whole : AreWhole d
+
+abbrev pub no_atom : Atom
+no_atom = ClassAtom (record { 0 = 0 }) Blank
 
 abbrev pub empty_draft : Draft
 empty_draft = record { query = record { tables = []; conditions = [] }; bound = []; origins = [] }

@@ -1,5 +1,5 @@
 -- When two row terms are equal.
-use Rattle.std.specs.Prelude.{ℕ, ◌≡◌, true, List, [], ◌∷◌, length, get_or, Option, Some, None, ◌↔◌, IfSome, All}
+use Rattle.std.specs.Prelude.{ℕ, ◌≡◌, ◌<◌, true, List, [], ◌∷◌, length, get_or, Option, Some, None, ◌↔◌, IfSome, All}
 use Rattle.std.specs.List.{list_all}
 use Rattle.vocabulary.specs.declared.term.Term.{Term}
 use Rattle.source_tables.specs.Cells.{Cell}
@@ -38,6 +38,12 @@ pub record Equates (r s : RowTerm) (conditions : Option (List Condition)) : Type
 
 abbrev pub no_place : Place
 no_place = record { table = 0; col = record { 0 = 0 } }
+
+-- the holes of a condition have places
+abbrev pub IsPlaced : ℕ → ℕ → Meet → Type 0
+IsPlaced m n (Same i j) = (i < m) × (j < n)
+IsPlaced m n (First i text) = i < m
+IsPlaced m n (Second j text) = j < n
 
 -- a condition on the holes of two templates, as one on their places
 abbrev pub met_condition : List Place → List Place → Meet → Condition

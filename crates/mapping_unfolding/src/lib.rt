@@ -2,7 +2,14 @@
 #![tactic(auto)]
 
 mod draft;
+mod equate;
+mod extend;
+mod put;
+mod shift;
+mod source;
 mod unfolded;
+mod unfolding;
 
 pub use draft::Origin;
 pub use unfolded::Unfolded;
+pub use unfolding::unfold;
