@@ -7,6 +7,8 @@ mod extend;
 mod put;
 mod shift;
 mod source;
+#[cfg(test)]
+mod tests;
 mod unfolded;
 mod unfolding;
 
