@@ -1,0 +1,8 @@
+pub mod Adding
+pub mod Beside
+pub mod Cells
+pub mod Equating
+pub mod Extending
+pub mod Finishing
+pub mod Texts
+pub mod Whole

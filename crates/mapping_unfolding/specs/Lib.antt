@@ -1,0 +1,4 @@
+pub mod Drafts
+pub mod Equating
+pub mod Shifts
+pub mod Unfoldings
