@@ -1,3 +1,6 @@
 pub mod OneLog
+mod Runs
 mod Samples
 mod SmallLog
+mod Tuples
+mod Walking

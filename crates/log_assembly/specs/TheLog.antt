@@ -8,6 +8,7 @@ use Rattle.vocabulary.specs.declared.term.Term.{Term, Named, Value}
 use Rattle.vocabulary.specs.Lists.{In, IsListOf, Pairwise}
 use Rattle.vocabulary.specs.Terms.{side_of, text_of}
 use Rattle.vocabulary.specs.Texts.{text_cmp}
+use Rattle.queries.specs.Order.{term_cmp}
 use Rattle.xes_writer.specs.declared.log.Entry.{Entry}
 use Rattle.xes_writer.specs.declared.log.EventRow.{EventRow}
 use Rattle.xes_writer.specs.declared.log.TraceRow.{TraceRow}
@@ -41,10 +42,6 @@ pub record Moment : Type 0 where
 abbrev pub moment_cmp : Moment → Moment → Ordering
 moment_cmp a b = ordering_then (text_cmp a.instant b.instant) (ordering_then (text_cmp a.object b.object) (nat_cmp a.place b.place))
 
--- values of one key by the bytes of their texts
-abbrev pub value_cmp : Term → Term → Ordering
-value_cmp a b = text_cmp (text_of a) (text_of b)
-
 module _ (certain : Certain) where
   -- a mandatory key has exactly one value
   abbrev pub IsMet : List ℕ → KeyNote → Type 0
@@ -60,12 +57,12 @@ module _ (certain : Certain) where
   abbrev pub WritesOne : KeyNote → List ℕ → List (Entry (List ℕ)) → Type 0
   WritesOne key o entries = (v : Term) × IsOne (IsValue certain key o) v × (entries ≡ entry_of key.key v ∷ [])
 
-  -- the attributes of a key, by its rule: its one value; its one value or nothing, where it has none or several; or all its values by bytes
+  -- the attributes of a key, by its rule: its one value; its one value or nothing, where it has none or several; or all its values in order, which is by bytes where they have one sort
   abbrev pub IsEntriesBy : Rule → KeyNote → List ℕ → List (Entry (List ℕ)) → Type 0
   IsEntriesBy Mandatory key o entries = WritesOne key o entries
   IsEntriesBy Single key o entries =
       WritesOne key o entries ⊎ ((HasNone (IsValue certain key o) ⊎ HasSeveral (IsValue certain key o)) × (entries ≡ []))
-  IsEntriesBy Many key o entries = (vs : List Term) × IsListOf value_cmp (IsValue certain key o) vs × (entries ≡ numbered key.key 1 vs)
+  IsEntriesBy Many key o entries = (vs : List Term) × IsListOf term_cmp (IsValue certain key o) vs × (entries ≡ numbered key.key 1 vs)
 
   abbrev pub IsEntries : List ℕ → KeyNote → List (Entry (List ℕ)) → Type 0
   IsEntries o key entries = IsEntriesBy key.rule key o entries
