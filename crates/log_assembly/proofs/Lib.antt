@@ -1,3 +1,5 @@
+mod Numbering
+mod Occurring
 pub mod OneLog
 mod Runs
 mod Samples

@@ -31,7 +31,7 @@ pairwise_fixes R one (x ∷ xs) [] zs h k = absurd h
 pairwise_fixes R one (x ∷ xs) (y ∷ ys) [] h k = absurd k
 pairwise_fixes R one (x ∷ xs) (y ∷ ys) (z ∷ zs) h k = λ i. one x y z h.0 k.0 i ∷ pairwise_fixes R one xs ys zs h.1 k.1 i
 
-moment_total : IsTotalOrder moment_cmp
+pub moment_total : IsTotalOrder moment_cmp
 moment_total = then_total (on_texts (λ (m : Moment). m.instant)) (then_total (on_texts (λ (m : Moment). m.object)) (on_total (λ (m : Moment). m.place) nat_cmp_total))
 
 -- none or several contradict exactly one

@@ -5,7 +5,9 @@ use Rattle.queries.specs.declared.query.Query.{Query}
 use Rattle.xes_writer.specs.declared.log.EventRow.{EventRow}
 use Rattle.xes_writer.specs.declared.log.Log.{Log}
 use Rattle.annotation_language.specs.declared.notes.EventNote.{EventNote}
-use Rattle.log_assembly.specs.TheReport.{Kept, Left, NoCase, NoValue, SeveralValues, report_text}
+use Rattle.log_assembly.specs.declared.verdict.Why.TheVariants.{NoCase, NoValue, SeveralValues}
+use Rattle.log_assembly.specs.declared.verdict.Verdict.TheVariants.{Kept, Left}
+use Rattle.log_assembly.specs.TheReport.{report_text}
 
 abbrev no_query : Query
 no_query = record { head = []; atoms = [] }

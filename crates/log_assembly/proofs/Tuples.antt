@@ -9,7 +9,7 @@ use Rattle.queries.proofs.Ordered.{tuples_ordered}
 use Rattle.log_assembly.specs.Found.{first_cmp}
 use Rattle.log_assembly.proofs.Runs.{rises}
 
-not_above : (a b : Ordering) → ordering_then a b ≡ Less → is_gt a ≡ false
+pub not_above : (a b : Ordering) → ordering_then a b ≡ Less → is_gt a ≡ false
 not_above Less b e = refl
 not_above Equal b e = refl
 not_above Greater b e = cc

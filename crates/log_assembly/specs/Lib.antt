@@ -1,5 +1,7 @@
 pub mod Answered
 pub mod Asked
 pub mod Found
+pub mod Gathered
+pub mod Judged
 pub mod TheLog
 pub mod TheReport

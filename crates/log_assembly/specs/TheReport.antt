@@ -8,19 +8,12 @@ use Rattle.annotation_language.specs.declared.notes.Rule.TheVariants.{Mandatory,
 use Rattle.annotation_language.specs.declared.notes.KeyNote.{KeyNote}
 use Rattle.annotation_language.specs.declared.notes.EventNote.{EventNote}
 use Rattle.annotation_language.specs.declared.notes.Annotations.{Annotations}
+use Rattle.log_assembly.specs.declared.verdict.Why.{Why}
+use Rattle.log_assembly.specs.declared.verdict.Why.TheVariants.{NoCase, NoValue, SeveralValues}
+use Rattle.log_assembly.specs.declared.verdict.Verdict.{Verdict}
+use Rattle.log_assembly.specs.declared.verdict.Verdict.TheVariants.{Kept, Left}
 use Rattle.log_assembly.specs.Asked.{Certain, HasNone, HasSeveral, IsCase, IsObject, IsCaseOf, IsValue, IsName}
 use Rattle.log_assembly.specs.TheLog.{IsMet, IsKept}
-
--- why an event is left out: it has no case, or no value or several of this mandatory key
-pub data Why : Type 0 where
-  NoCase : Why
-  NoValue : List ℕ → Why
-  SeveralValues : List ℕ → Why
-
--- an event is kept, and these single keys of it have several values; or it is left out
-pub data Verdict : Type 0 where
-  Kept : List (List ℕ) → Verdict
-  Left : Why → Verdict
 
 module _ (certain : Certain) where
   -- the first mandatory key that does not have exactly one value

@@ -3,7 +3,11 @@
 
 mod asked;
 mod attributes;
+mod entries;
 pub mod laws;
 mod lookup;
+mod occurrences;
+mod verdict;
 
 pub use asked::{Asked, AskedEvent};
+pub use verdict::{Verdict, Why};

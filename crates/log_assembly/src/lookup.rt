@@ -1,7 +1,7 @@
 //! What answers in their order say of a term.
 ghost use Rattle.std.specs.Prelude.{◌≡◌, IfOk, option_copied};
 ghost use Rattle.log_assembly.specs.Answered.{InOrder};
-ghost use Rattle.log_assembly.specs.Found.{case_in, cases_at, first_cmp, lone_name, run_of, second, stands_alone, values_at};
+ghost use Rattle.log_assembly.specs.Found.{case_in, cases_at, first_cmp, lone_name, names_of, run_of, second, stands_alone, values_at};
 
 use certain_answers::Answers;
 use queries::compare_terms;
@@ -39,14 +39,26 @@ fn second(tuple: &List<Term>) -> Option<&Term>
     }
 }
 
-/// The IRI of an answer that is one name.
-pub(crate) fn lone_name(tuple: &List<Term>) -> Option<&Name>
+fn lone_name(tuple: &List<Term>) -> Option<&Name>
     ensures { option_copied result ≡ lone_name tuple.now }
 {
     match tuple.items() {
         [Term::Named(name)] => Some(name),
         _ => None,
     }
+}
+
+/// The IRIs of the answers that are one name each, in their order.
+pub(crate) fn names(alloc: Global, answers: &Answers) -> Result<Vec<Name>, AllocError>
+    ensures { IfOk result (λ v. v.items ≡ names_of answers.now.tuples) }
+{
+    let mut found = Vec::new(alloc);
+    for tuple in answers.tuples() {
+        if let Some(name) = lone_name(tuple) {
+            found.push(name.copy(alloc)?)?;
+        }
+    }
+    Ok(found)
 }
 
 /// The second terms of the pairs that begin with the term.
