@@ -1,8 +1,13 @@
+mod Homes
+mod Judging
+mod Making
+mod Moments
 mod Numbering
 mod Occurring
 pub mod OneLog
 mod Runs
 mod Samples
+mod Sections
 mod SmallLog
 mod Tuples
 mod Walking

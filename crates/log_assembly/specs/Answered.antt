@@ -2,12 +2,9 @@
 use Rattle.std.specs.Prelude.{◌≡◌, ℕ, List, [], ◌∷◌, ◌++◌, Option, Some, None, option_to_list, filter_map}
 use Rattle.std.specs.List.{flat_map, All}
 use Rattle.std.specs.List.Sorted.{IsStrictlySortedBy}
-use Rattle.vocabulary.specs.declared.term.Fact.{Fact}
 use Rattle.vocabulary.specs.Lists.{In, IsListOf, Pairwise}
-use Rattle.dllite_axioms.specs.declared.axioms.Axiom.{Axiom}
 use Rattle.queries.specs.declared.query.Query.{Query}
 use Rattle.queries.specs.Order.{tuple_cmp}
-use Rattle.certain_semantics.specs.Certain.{IsCertain}
 use Rattle.certain_answers.specs.declared.answers.Answers.{Answers}
 use Rattle.annotation_language.specs.declared.notes.KeySource.{KeySource}
 use Rattle.annotation_language.specs.declared.notes.KeySource.TheVariants.{Fixed, Asked as OfQuery}
@@ -51,10 +48,6 @@ module _ (certain : Certain) where
     pub cases : AreAnswersOf notes.case_query asked.cases
     pub names : AreAnswersOf notes.case_name asked.names
     pub events : Pairwise IsEventAsked notes.events asked.events
-
--- the certain answers over these axioms and facts
-abbrev pub AreAskedOver : List Axiom → List Fact → Annotations → Asked → Type 0
-AreAskedOver axioms facts notes asked = AreAsked (IsCertain axioms facts) notes asked
 
 -- each list of answers is in order, as those of a query are
 abbrev pub InOrder : Answers → Type 0

@@ -10,6 +10,8 @@ use Rattle.certain_answers.specs.declared.answers.Answers.{Answers}
 use Rattle.annotation_language.specs.declared.notes.KeySource.{KeySource}
 use Rattle.annotation_language.specs.declared.notes.KeySource.TheVariants.{Fixed, Asked as OfQuery}
 use Rattle.annotation_language.specs.declared.notes.KeyNote.{KeyNote}
+use Rattle.annotation_language.specs.declared.notes.EventNote.{EventNote}
+use Rattle.log_assembly.specs.declared.asked.AskedEvent.{AskedEvent}
 use Rattle.log_assembly.specs.declared.attributes.Attribute.{Attribute}
 
 -- how the first term of a tuple stands to a term
@@ -71,3 +73,10 @@ attribute_of t key answers = record { key = key.key; rule = key.rule; values = v
 -- the keys of an object with their values, in the order of the keys
 abbrev pub attributes_of : Term → List KeyNote → List Answers → List Attribute
 attributes_of t keys answers = map (λ p. attribute_of t p.0 p.1) (zip keys answers)
+
+-- the keys of an object under an event annotation, and its cases
+abbrev pub keys_at : EventNote → AskedEvent → List ℕ → List Attribute
+keys_at event answers o = attributes_of (Named o) event.keys answers.keys
+
+abbrev pub homes_at : List (List Term) → AskedEvent → List ℕ → List (List ℕ)
+homes_at cases answers o = cases_at cases (Named o) answers.cases.tuples

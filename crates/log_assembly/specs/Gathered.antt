@@ -16,7 +16,7 @@ use Rattle.log_assembly.specs.declared.asked.AskedEvent.{AskedEvent}
 use Rattle.log_assembly.specs.declared.asked.Asked.{Asked}
 use Rattle.log_assembly.specs.declared.attributes.Attribute.{Attribute}
 use Rattle.log_assembly.specs.declared.occurrences.Occurrence.{Occurrence}
-use Rattle.log_assembly.specs.Found.{attributes_of, cases_at, names_of, values_at}
+use Rattle.log_assembly.specs.Found.{homes_at, keys_at, names_of, values_at}
 use Rattle.log_assembly.specs.Judged.{entries_of, is_kept, times_of}
 use Rattle.log_assembly.specs.TheLog.{Moment, entry_of, moment_cmp}
 
@@ -36,13 +36,6 @@ occurrences_in o n times cases = flat_map (λ c. map (occurrence c o n) times) c
 
 abbrev pub occurrences_if : Bool → List ℕ → ℕ → List Attribute → List (List ℕ) → List Occurrence
 occurrences_if kept o n attributes cases = if kept then occurrences_in o n (times_of attributes) cases else []
-
--- the keys of an object under an event annotation, and its cases
-abbrev pub keys_at : EventNote → AskedEvent → List ℕ → List Attribute
-keys_at event answers o = attributes_of (Named o) event.keys answers.keys
-
-abbrev pub homes_at : List (List Term) → AskedEvent → List ℕ → List (List ℕ)
-homes_at cases answers o = cases_at cases (Named o) answers.cases.tuples
 
 -- where an object is kept, its event in each of its cases
 abbrev pub object_occurrences : List (List Term) → EventNote → AskedEvent → ℕ → List ℕ → List Occurrence

@@ -12,6 +12,10 @@ use Rattle.log_assembly.specs.declared.verdict.Why.{Why}
 use Rattle.log_assembly.specs.declared.verdict.Why.TheVariants.{NoCase, NoValue, SeveralValues}
 use Rattle.log_assembly.specs.declared.verdict.Verdict.{Verdict}
 use Rattle.log_assembly.specs.declared.verdict.Verdict.TheVariants.{Kept, Left}
+use Rattle.log_assembly.specs.declared.verdict.Judgement.{Judgement}
+use Rattle.log_assembly.specs.declared.asked.AskedEvent.{AskedEvent}
+use Rattle.annotation_language.specs.declared.notes.EventNote.{EventNote}
+use Rattle.log_assembly.specs.Found.{homes_at, keys_at, names_of, values_at}
 use Rattle.log_assembly.specs.TheLog.{entry_of, numbered}
 
 -- a mandatory key has one value
@@ -86,3 +90,15 @@ times_at a = if bytes_eq a.key (codes "time:timestamp") then filter_map time_of 
 -- the times of an object's event
 abbrev pub times_of : List Attribute → List (List ℕ)
 times_of attributes = flat_map times_at attributes
+
+-- an object with its verdict
+abbrev pub judgement_of : List (List Term) → EventNote → AskedEvent → List ℕ → Judgement
+judgement_of cases event answers o = record { object = o; verdict = verdict_of (keys_at event answers o) (homes_at cases answers o) }
+
+-- the objects of an event annotation with their verdicts
+abbrev pub judgements_of : List (List Term) → EventNote × AskedEvent → List Judgement
+judgements_of cases p = map (judgement_of cases p.0 p.1) (names_of p.1.objects.tuples)
+
+-- the case has several names
+abbrev pub has_names : List (List Term) → List ℕ → Bool
+has_names names c = nat_lt 1 (length (values_at (Named c) names))

@@ -21,6 +21,8 @@ use Rattle.annotation_language.specs.declared.notes.Annotations.{Annotations}
 use Rattle.dllite_axioms.specs.declared.axioms.Axiom.{Axiom}
 use Rattle.vocabulary.specs.declared.term.Fact.{Fact}
 use Rattle.certain_semantics.specs.Certain.{IsCertain}
+use Rattle.log_assembly.specs.declared.asked.Asked.{Asked}
+use Rattle.log_assembly.specs.Answered.{AreAsked}
 use Rattle.log_assembly.specs.Asked.{Certain, IsOne, HasNone, HasSeveral, IsCase, IsObject, IsCaseOf, IsValue, IsName}
 
 -- the attribute of a key with this value
@@ -112,3 +114,7 @@ module _ (certain : Certain) where
 abbrev pub ThereIsOneLog : Type 0
 ThereIsOneLog = (axioms : List Axiom) (facts : List Fact) (notes : Annotations) (a b : Log (List ℕ)) →
     IsLog (IsCertain axioms facts) notes a → IsLog (IsCertain axioms facts) notes b → a ≡ b
+
+-- the log over the certain answers that are asked for
+abbrev pub IsLogOf : Annotations → Asked → Log (List ℕ) → Type 0
+IsLogOf notes asked log = (axioms : List Axiom) (facts : List Fact) → AreAsked (IsCertain axioms facts) notes asked → IsLog (IsCertain axioms facts) notes log

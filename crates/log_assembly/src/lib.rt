@@ -7,7 +7,11 @@ mod entries;
 pub mod laws;
 mod lookup;
 mod occurrences;
+mod reporting;
+mod traces;
 mod verdict;
 
 pub use asked::{Asked, AskedEvent};
-pub use verdict::{Verdict, Why};
+pub use reporting::report;
+pub use traces::assemble;
+pub use verdict::{Judgement, Verdict, Why};

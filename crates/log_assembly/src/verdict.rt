@@ -22,6 +22,13 @@ pub enum Verdict {
     Left(Why),
 }
 
+/// An object and what becomes of it.
+#[derive(Debug, Drop)]
+pub struct Judgement {
+    pub object: Name,
+    pub verdict: Verdict,
+}
+
 impl Attribute {
     fn is_met(&self) -> bool
         ensures { result ≡ is_met self.now }
