@@ -1,4 +1,5 @@
 mod Homes
+mod InOrder
 mod Judging
 mod Making
 mod Moments

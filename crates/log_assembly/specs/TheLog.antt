@@ -110,11 +110,6 @@ module _ (certain : Certain) where
     pub listed : IsListOf text_cmp (IsCase certain notes) cases
     pub traces : Pairwise (IsTrace notes) cases log.traces
 
--- there is one log of the same annotations over the certain answers of the same axioms and facts
-abbrev pub ThereIsOneLog : Type 0
-ThereIsOneLog = (axioms : List Axiom) (facts : List Fact) (notes : Annotations) (a b : Log (List ℕ)) →
-    IsLog (IsCertain axioms facts) notes a → IsLog (IsCertain axioms facts) notes b → a ≡ b
-
 -- the log over the certain answers that are asked for
 abbrev pub IsLogOf : Annotations → Asked → Log (List ℕ) → Type 0
 IsLogOf notes asked log = (axioms : List Axiom) (facts : List Fact) → AreAsked (IsCertain axioms facts) notes asked → IsLog (IsCertain axioms facts) notes log

@@ -8,6 +8,8 @@ pub mod laws;
 mod lookup;
 mod occurrences;
 mod reporting;
+#[cfg(test)]
+mod tests;
 mod traces;
 mod verdict;
 
