@@ -4,9 +4,17 @@ use annotation_language::{Annotations, EventNote, KeyNote, KeySource, Rule};
 use certain_answers::Answers;
 use queries::Query;
 use std::alloc::{AllocError, Global};
-use std::test::Fail;
+use std::process::Abort;
 use vocabulary::{List, Name, Side, Term, ValueKind};
 use xes_writer::log_text;
+
+const FRONT: &str = "<?xml version=\"1.0\" encoding=\"UTF-8\"?>
+<log xes.version=\"1849.2016\" xes.features=\"\">
+  <extension name=\"Concept\" prefix=\"concept\" uri=\"http://www.xes-standard.org/concept.xesext\"/>
+  <extension name=\"Time\" prefix=\"time\" uri=\"http://www.xes-standard.org/time.xesext\"/>
+  <extension name=\"Organizational\" prefix=\"org\" uri=\"http://www.xes-standard.org/org.xesext\"/>
+  <extension name=\"Lifecycle\" prefix=\"lifecycle\" uri=\"http://www.xes-standard.org/lifecycle.xesext\"/>
+";
 
 const OBJECT: Side = Side::Object;
 
@@ -70,7 +78,7 @@ struct Noted {
     answers: List<Answers>,
 }
 
-fn noted(
+fn annotation(
     alloc: Global,
     name: &str,
     objects: &[&str],
@@ -125,7 +133,11 @@ struct Project {
     asked: Asked,
 }
 
-fn project(alloc: Global, cases: &[&str], names: &[(&str, &str)]) -> Result<Project, AllocError> {
+fn with_cases(
+    alloc: Global,
+    cases: &[&str],
+    names: &[(&str, &str)],
+) -> Result<Project, AllocError> {
     let mut notes = Annotations::new(alloc);
     notes.case_query = Some(query(alloc));
     notes.case_name = Some(query(alloc));
@@ -161,24 +173,29 @@ impl Project {
     }
 }
 
+fn log_with(alloc: Global, traces: &str) -> Result<String, AllocError> {
+    format!(in alloc; "{FRONT}{traces}</log>\n")
+}
+
 fn says(
     rt: &impl Abort,
     alloc: Global,
     project: &Project,
-    log: &str,
+    traces: &str,
     text: &str,
 ) -> Result<(), AllocError> {
     assert!(rt; project.asked.is_in_order());
     let made = assemble(alloc, &project.notes, &project.asked)?;
     let printed = log_text(alloc, &made)?;
-    assert!(rt; printed.as_slice() == log.as_bytes());
+    let wanted = log_with(alloc, traces)?;
+    assert!(rt; printed.as_slice() == wanted.as_bytes());
     let reported = report(alloc, &project.notes, &project.asked, &made)?;
     assert!(rt; reported.as_slice() == text.as_bytes());
     Ok(())
 }
 
 fn submissions(alloc: Global) -> Result<Noted, AllocError> {
-    let mut submit = noted(alloc, "submit", &[P1, P2], &[(P1, P1), (P2, P2)])?;
+    let mut submit = annotation(alloc, "submit", &[P1, P2], &[(P1, P1), (P2, P2)])?;
     submit.fixed(alloc, "concept:name", Rule::Mandatory, "submit paper")?;
     let times = [
         (P1, "2024-03-01T09:00:00.000+00:00"),
@@ -193,13 +210,13 @@ fn submissions(alloc: Global) -> Result<Noted, AllocError> {
 #[test]
 fn the_conference_has_its_log(rt: HostRuntime) -> Result<(), AllocError> {
     let alloc = rt.alloc();
-    let mut conference = project(
+    let mut conference = with_cases(
         alloc,
         &[P1, P2],
         &[(P1, "Chase & Match"), (P2, "Logs, Events")],
     )?;
     conference.add(alloc, submissions(alloc)?)?;
-    let mut review = noted(
+    let mut review = annotation(
         alloc,
         "review",
         &[R1, R2, R3],
@@ -215,13 +232,7 @@ fn the_conference_has_its_log(rt: HostRuntime) -> Result<(), AllocError> {
     review.asked(alloc, "org:resource", Rule::Single, TEXT, &people)?;
     review.fixed(alloc, "lifecycle:transition", Rule::Single, "complete")?;
     conference.add(alloc, review)?;
-    let log = "<?xml version=\"1.0\" encoding=\"UTF-8\"?>
-<log xes.version=\"1849.2016\" xes.features=\"\">
-  <extension name=\"Concept\" prefix=\"concept\" uri=\"http://www.xes-standard.org/concept.xesext\"/>
-  <extension name=\"Time\" prefix=\"time\" uri=\"http://www.xes-standard.org/time.xesext\"/>
-  <extension name=\"Organizational\" prefix=\"org\" uri=\"http://www.xes-standard.org/org.xesext\"/>
-  <extension name=\"Lifecycle\" prefix=\"lifecycle\" uri=\"http://www.xes-standard.org/lifecycle.xesext\"/>
-  <trace>
+    let log = "  <trace>
     <string key=\"object\" value=\"http://conf.org/paper/1\"/>
     <string key=\"concept:name\" value=\"Chase &amp; Match\"/>
     <event>
@@ -255,10 +266,96 @@ fn the_conference_has_its_log(rt: HostRuntime) -> Result<(), AllocError> {
       <string key=\"lifecycle:transition\" value=\"complete\"/>
     </event>
   </trace>
-</log>
 ";
     let text = "traces 2 events 4 left out 1
 left out: review <http://conf.org/review/r2>: none time:timestamp
 ";
     says(&rt, alloc, &conference, log, text)
+}
+
+// A case with several names and one without, an event left out for each reason, and keys by each
+// rule.
+#[test]
+fn keys_and_names_follow_their_rules(rt: HostRuntime) -> Result<(), AllocError> {
+    let alloc = rt.alloc();
+    let mut small = with_cases(alloc, &["c1", "c2"], &[("c1", "A"), ("c1", "B")])?;
+    let objects = ["o1", "o2", "o3", "o4"];
+    let cases = [("o1", "c1"), ("o2", "c1"), ("o3", "c2"), ("o4", "c3")];
+    let mut visit = annotation(alloc, "visit", &objects, &cases)?;
+    let times = [("o1", "T1"), ("o2", "T1"), ("o2", "T2"), ("o4", "T1")];
+    visit.asked(alloc, "time:timestamp", Rule::Mandatory, TIME, &times)?;
+    let values = [("o1", "x"), ("o1", "y"), ("o2", "x"), ("o2", "y")];
+    visit.asked(alloc, "note", Rule::Many, TEXT, &values)?;
+    visit.asked(alloc, "of", Rule::Single, OBJECT, &values)?;
+    small.add(alloc, visit)?;
+    let log = "  <trace>
+    <string key=\"object\" value=\"c1\"/>
+    <string key=\"concept:name\" value=\"c1\"/>
+    <event>
+      <string key=\"object\" value=\"o1\"/>
+      <date key=\"time:timestamp\" value=\"T1\"/>
+      <string key=\"note#1\" value=\"x\"/>
+      <string key=\"note#2\" value=\"y\"/>
+    </event>
+  </trace>
+  <trace>
+    <string key=\"object\" value=\"c2\"/>
+    <string key=\"concept:name\" value=\"c2\"/>
+  </trace>
+";
+    let text = "traces 2 events 1 left out 3
+several: case <c1> concept:name
+several: visit <o1> of
+left out: visit <o2>: several time:timestamp
+left out: visit <o3>: none time:timestamp
+left out: visit <o4>: no case
+";
+    says(&rt, alloc, &small, log, text)
+}
+
+fn reviews(alloc: Global, name: &str) -> Result<Noted, AllocError> {
+    let cases = [("r1", "p1"), ("r1", "p2"), ("r3", "p1"), ("r3", "p2")];
+    let mut review = annotation(alloc, name, &["r1", "r3"], &cases)?;
+    review.fixed(alloc, "concept:name", Rule::Mandatory, name)?;
+    let times = [("r1", "T"), ("r3", "T")];
+    review.asked(alloc, "time:timestamp", Rule::Mandatory, TIME, &times)?;
+    Ok(review)
+}
+
+fn review_text(alloc: Global, object: &str, name: &str) -> Result<String, AllocError> {
+    format!(in alloc;
+        "    <event>
+      <string key=\"object\" value=\"{object}\"/>
+      <string key=\"concept:name\" value=\"{name}\"/>
+      <date key=\"time:timestamp\" value=\"T\"/>
+    </event>
+"
+    )
+}
+
+fn case_text(alloc: Global, case: &str) -> Result<String, AllocError> {
+    let first = review_text(alloc, "r1", "review")?;
+    let second = review_text(alloc, "r1", "again")?;
+    let third = review_text(alloc, "r3", "review")?;
+    let last = review_text(alloc, "r3", "again")?;
+    format!(in alloc;
+        "  <trace>
+    <string key=\"object\" value=\"{case}\"/>
+    <string key=\"concept:name\" value=\"{case}\"/>
+{first}{second}{third}{last}  </trace>
+"
+    )
+}
+
+// All are at one time: they stand by the object, then by the line of the annotation.
+#[test]
+fn an_event_stands_in_each_of_its_cases(rt: HostRuntime) -> Result<(), AllocError> {
+    let alloc = rt.alloc();
+    let mut twice = with_cases(alloc, &["p1", "p2"], &[])?;
+    twice.add(alloc, reviews(alloc, "review")?)?;
+    twice.add(alloc, reviews(alloc, "again")?)?;
+    let mut log = case_text(alloc, "p1")?;
+    log.push_str(case_text(alloc, "p2")?.as_str())?;
+    let text = "traces 2 events 8 left out 0\n";
+    says(&rt, alloc, &twice, log.as_str(), text)
 }
