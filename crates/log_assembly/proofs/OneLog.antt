@@ -6,9 +6,10 @@ use Rattle.std.specs.Cmp.Lexicographic.{on_texts}
 use Rattle.std.proofs.lemmas.Cmp.{nat_cmp_total, nat_list_cmp_total, on_total, then_total}
 use Rattle.vocabulary.specs.declared.term.Term.{Term, Named}
 use Rattle.vocabulary.specs.Lists.{Pairwise}
-use Rattle.vocabulary.specs.Terms.{text_of}
 use Rattle.vocabulary.specs.Texts.{text_cmp}
 use Rattle.vocabulary.proofs.OneList.{one_list}
+use Rattle.queries.specs.Order.{term_cmp}
+use Rattle.queries.proofs.Ordered.{tuples_ordered}
 use Rattle.xes_writer.specs.declared.log.Entry.{Entry}
 use Rattle.xes_writer.specs.declared.log.EventRow.{EventRow}
 use Rattle.xes_writer.specs.declared.log.TraceRow.{TraceRow}
@@ -19,7 +20,7 @@ use Rattle.annotation_language.specs.declared.notes.KeyNote.{KeyNote}
 use Rattle.annotation_language.specs.declared.notes.EventNote.{EventNote}
 use Rattle.annotation_language.specs.declared.notes.Annotations.{Annotations}
 use Rattle.log_assembly.specs.Asked.{Certain, IsOne, HasNone, HasSeveral, IsCase, IsValue, IsName}
-use Rattle.log_assembly.specs.TheLog.{Moment, moment_cmp, value_cmp, entry_of, numbered, IsEntries, IsEntriesBy, IsMoment, IsEvent, IsTitle, IsTrace, IsLog, WritesOne}
+use Rattle.log_assembly.specs.TheLog.{Moment, moment_cmp, entry_of, numbered, IsEntries, IsEntriesBy, IsMoment, IsEvent, IsTitle, IsTrace, IsLog, WritesOne}
 
 -- the second list of two that are related item by item is fixed, where each item is
 pub pairwise_fixes : {A B : Type 0} (R : A → B → Type 0) → ((x : A) (y z : B) → R x y → R x z → y ≡ z) → (xs : List A) (ys zs : List B) → Pairwise R xs ys → Pairwise R xs zs → ys ≡ zs
@@ -30,7 +31,7 @@ pairwise_fixes R one (x ∷ xs) [] zs h k = absurd h
 pairwise_fixes R one (x ∷ xs) (y ∷ ys) [] h k = absurd k
 pairwise_fixes R one (x ∷ xs) (y ∷ ys) (z ∷ zs) h k = λ i. one x y z h.0 k.0 i ∷ pairwise_fixes R one xs ys zs h.1 k.1 i
 
-moment_total : IsTotalOrder moment_cmp
+pub moment_total : IsTotalOrder moment_cmp
 moment_total = then_total (on_texts (λ (m : Moment). m.instant)) (then_total (on_texts (λ (m : Moment). m.object)) (on_total (λ (m : Moment). m.place) nat_cmp_total))
 
 -- none or several contradict exactly one
@@ -51,7 +52,7 @@ module _ (certain : Certain) where
   entries_by Single key o p q (inl h) (inr k) = absurd (not_one (IsValue certain key o) h.0 h.1 k.0)
   entries_by Single key o p q (inr h) (inl k) = absurd (not_one (IsValue certain key o) k.0 k.1 h.0)
   entries_by Single key o p q (inr h) (inr k) = h.1 ∙ sym k.1
-  entries_by Many key o p q h k = h.2 ∙ ap (numbered key.key 1) (one_list value_cmp (on_texts text_of) (IsValue certain key o) h.0 k.0 h.1 k.1) ∙ sym k.2
+  entries_by Many key o p q h k = h.2 ∙ ap (numbered key.key 1) (one_list term_cmp tuples_ordered.terms (IsValue certain key o) h.0 k.0 h.1 k.1) ∙ sym k.2
 
   same_title : (notes : Annotations) (c : List ℕ) (t u : Term) → IsTitle certain notes c t → IsTitle certain notes c u → t ≡ u
   same_title notes c t u (inl h) (inl k) = k.1 t h.0

@@ -8,6 +8,7 @@ use Rattle.vocabulary.specs.declared.term.Term.{Term, Named, Value}
 use Rattle.vocabulary.specs.Lists.{In, IsListOf, Pairwise}
 use Rattle.vocabulary.specs.Terms.{side_of, text_of}
 use Rattle.vocabulary.specs.Texts.{text_cmp}
+use Rattle.queries.specs.Order.{term_cmp}
 use Rattle.xes_writer.specs.declared.log.Entry.{Entry}
 use Rattle.xes_writer.specs.declared.log.EventRow.{EventRow}
 use Rattle.xes_writer.specs.declared.log.TraceRow.{TraceRow}
@@ -20,6 +21,8 @@ use Rattle.annotation_language.specs.declared.notes.Annotations.{Annotations}
 use Rattle.dllite_axioms.specs.declared.axioms.Axiom.{Axiom}
 use Rattle.vocabulary.specs.declared.term.Fact.{Fact}
 use Rattle.certain_semantics.specs.Certain.{IsCertain}
+use Rattle.log_assembly.specs.declared.asked.Asked.{Asked}
+use Rattle.log_assembly.specs.Answered.{AreAsked}
 use Rattle.log_assembly.specs.Asked.{Certain, IsOne, HasNone, HasSeveral, IsCase, IsObject, IsCaseOf, IsValue, IsName}
 
 -- the attribute of a key with this value
@@ -41,10 +44,6 @@ pub record Moment : Type 0 where
 abbrev pub moment_cmp : Moment → Moment → Ordering
 moment_cmp a b = ordering_then (text_cmp a.instant b.instant) (ordering_then (text_cmp a.object b.object) (nat_cmp a.place b.place))
 
--- values of one key by the bytes of their texts
-abbrev pub value_cmp : Term → Term → Ordering
-value_cmp a b = text_cmp (text_of a) (text_of b)
-
 module _ (certain : Certain) where
   -- a mandatory key has exactly one value
   abbrev pub IsMet : List ℕ → KeyNote → Type 0
@@ -60,12 +59,12 @@ module _ (certain : Certain) where
   abbrev pub WritesOne : KeyNote → List ℕ → List (Entry (List ℕ)) → Type 0
   WritesOne key o entries = (v : Term) × IsOne (IsValue certain key o) v × (entries ≡ entry_of key.key v ∷ [])
 
-  -- the attributes of a key, by its rule: its one value; its one value or nothing, where it has none or several; or all its values by bytes
+  -- the attributes of a key, by its rule: its one value; its one value or nothing, where it has none or several; or all its values in order, which is by bytes where they have one sort
   abbrev pub IsEntriesBy : Rule → KeyNote → List ℕ → List (Entry (List ℕ)) → Type 0
   IsEntriesBy Mandatory key o entries = WritesOne key o entries
   IsEntriesBy Single key o entries =
       WritesOne key o entries ⊎ ((HasNone (IsValue certain key o) ⊎ HasSeveral (IsValue certain key o)) × (entries ≡ []))
-  IsEntriesBy Many key o entries = (vs : List Term) × IsListOf value_cmp (IsValue certain key o) vs × (entries ≡ numbered key.key 1 vs)
+  IsEntriesBy Many key o entries = (vs : List Term) × IsListOf term_cmp (IsValue certain key o) vs × (entries ≡ numbered key.key 1 vs)
 
   abbrev pub IsEntries : List ℕ → KeyNote → List (Entry (List ℕ)) → Type 0
   IsEntries o key entries = IsEntriesBy key.rule key o entries
@@ -111,7 +110,6 @@ module _ (certain : Certain) where
     pub listed : IsListOf text_cmp (IsCase certain notes) cases
     pub traces : Pairwise (IsTrace notes) cases log.traces
 
--- there is one log of the same annotations over the certain answers of the same axioms and facts
-abbrev pub ThereIsOneLog : Type 0
-ThereIsOneLog = (axioms : List Axiom) (facts : List Fact) (notes : Annotations) (a b : Log (List ℕ)) →
-    IsLog (IsCertain axioms facts) notes a → IsLog (IsCertain axioms facts) notes b → a ≡ b
+-- the log over the certain answers that are asked for
+abbrev pub IsLogOf : Annotations → Asked → Log (List ℕ) → Type 0
+IsLogOf notes asked log = (axioms : List Axiom) (facts : List Fact) → AreAsked (IsCertain axioms facts) notes asked → IsLog (IsCertain axioms facts) notes log

@@ -1,4 +1,19 @@
 //! The one log of annotations and certain answers, and its report.
 #![tactic(auto)]
 
+mod asked;
+mod attributes;
+mod entries;
 pub mod laws;
+mod lookup;
+mod occurrences;
+mod reporting;
+#[cfg(test)]
+mod tests;
+mod traces;
+mod verdict;
+
+pub use asked::{Asked, AskedEvent};
+pub use reporting::report;
+pub use traces::assemble;
+pub use verdict::{Judgement, Verdict, Why};

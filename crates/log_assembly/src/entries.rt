@@ -1,0 +1,133 @@
+//! The attributes of events and traces, and the times of events.
+ghost use Rattle.std.specs.Prelude.{◌≡◌, ◌+◌, ◌∷◌, [], ◌++◌, codes, decimal, IfOk, OnOk, option_copied, string_bytes};
+ghost use Rattle.vocabulary.specs.Terms.{text_of};
+ghost use Rattle.log_assembly.specs.Judged.{entries_at, entries_of, lone_entry, time_of, times_at, times_of};
+ghost use Rattle.log_assembly.specs.TheLog.{entry_of, numbered};
+
+use crate::attributes::Attribute;
+use annotation_language::Rule;
+use std::alloc::{AllocError, Global};
+use vocabulary::{Name, Side, Term, ValueKind};
+use xes_writer::Entry;
+
+fn text(term: &Term) -> &Name
+    ensures { result.now ≡ text_of term.now }
+{
+    match term {
+        Term::Named(text) => text,
+        Term::Value(_, text) => text,
+        Term::New(_, _, parent) => text(parent.get()),
+    }
+}
+
+/// The attribute of this key and value.
+pub(crate) fn entry(alloc: Global, key: &str, value: &Term) -> Result<Entry<Name>, AllocError>
+    ensures { IfOk result (λ e. e ≡ entry_of key.now value.now) }
+{
+    Ok(Entry {
+        key: Name::new(alloc, key)?,
+        side: Side::of(value),
+        value: text(value).copy(alloc)?,
+    })
+}
+
+fn numbered_key(alloc: Global, key: &Name, number: usize) -> Result<String, AllocError>
+    ensures { IfOk result (λ s. string_bytes s ≡ key.now ++ codes "#" ++ decimal number) }
+{
+    let mut text = String::from_str(alloc, key.text())?;
+    text.push_str("#")?;
+    let digits = number.to_string(alloc)?;
+    text.push_str(digits.as_str())?;
+    Ok(text)
+}
+
+fn push_numbered(
+    alloc: Global,
+    out: &mut Vec<Entry<Name>>,
+    key: &Name,
+    values: &[Term],
+) -> Result<(), AllocError>
+    ensures { OnOk result (out.new.items ≡ out.old.items ++ numbered key.now 1 values.now) }
+{
+    for (at, value) in values.iter().enumerate() {
+        let key = numbered_key(alloc, key, at + 1)?;
+        out.push(entry(alloc, key.as_str(), value)?)?;
+    }
+    Ok(())
+}
+
+fn push_lone(
+    alloc: Global,
+    out: &mut Vec<Entry<Name>>,
+    key: &Name,
+    values: &[Term],
+) -> Result<(), AllocError>
+    ensures { OnOk result (out.new.items ≡ out.old.items ++ lone_entry key.now values.now) }
+{
+    if let [value] = values {
+        out.push(entry(alloc, key.text(), value)?)?;
+    }
+    Ok(())
+}
+
+fn push_entries(
+    alloc: Global,
+    out: &mut Vec<Entry<Name>>,
+    attribute: &Attribute,
+) -> Result<(), AllocError>
+    ensures { OnOk result (out.new.items ≡ out.old.items ++ entries_at attribute.now) }
+{
+    let values = attribute.values.items();
+    match attribute.rule {
+        Rule::Mandatory | Rule::Single => push_lone(alloc, out, &attribute.key, values),
+        Rule::Many => push_numbered(alloc, out, &attribute.key, values),
+    }
+}
+
+/// Adds the attributes of the keys, in their order.
+pub(crate) fn push_all(
+    alloc: Global,
+    out: &mut Vec<Entry<Name>>,
+    attributes: &[Attribute],
+) -> Result<(), AllocError>
+    ensures { OnOk result (out.new.items ≡ out.old.items ++ entries_of attributes.now) }
+{
+    for attribute in attributes {
+        push_entries(alloc, out, attribute)?;
+    }
+    Ok(())
+}
+
+fn time_of(term: &Term) -> Option<&Name>
+    ensures { option_copied result ≡ time_of term.now }
+{
+    match term {
+        Term::Value(ValueKind::Time, text) => Some(text),
+        _ => None,
+    }
+}
+
+fn push_times(alloc: Global, out: &mut Vec<Name>, attribute: &Attribute) -> Result<(), AllocError>
+    ensures { OnOk result (out.new.items ≡ out.old.items ++ times_at attribute.now) }
+{
+    if attribute.key.text() != "time:timestamp" {
+        return Ok(());
+    }
+    for value in attribute.values.items() {
+        if let Some(time) = time_of(value) {
+            out.push(time.copy(alloc)?)?;
+        }
+    }
+    Ok(())
+}
+
+/// The times that the keys give an event, in canonical text.
+pub(crate) fn times(alloc: Global, attributes: &[Attribute]) -> Result<Vec<Name>, AllocError>
+    ensures { IfOk result (λ v. v.items ≡ times_of attributes.now) }
+{
+    let mut out = Vec::new(alloc);
+    for attribute in attributes {
+        push_times(alloc, &mut out, attribute)?;
+    }
+    Ok(out)
+}
