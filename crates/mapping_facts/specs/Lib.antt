@@ -1,3 +1,5 @@
+pub mod Defined
 pub mod Facts
+pub mod Fits
 pub mod RowQueries
 pub mod Tuples
