@@ -2,3 +2,5 @@ pub mod Written
 pub mod Grammar
 pub mod Tables
 pub mod Mappings
+pub mod Shown
+pub mod Changes
