@@ -4,6 +4,9 @@
 mod cells;
 mod encoding;
 mod fault;
+mod holding;
+pub mod laws;
+mod matching;
 mod segment;
 mod segments;
 mod template;
@@ -16,4 +19,4 @@ pub use cells::HoleCells;
 pub use fault::TemplateFault;
 pub use segment::{Part, Segment};
 pub use template::Template;
-pub use unifier::{Meet, Unifier};
+pub use unifier::{Meet, Unifier, unify};

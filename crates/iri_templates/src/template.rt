@@ -1,17 +1,20 @@
 //! Templates.
-ghost use Rattle.std.specs.Prelude.{◌≡◌, ◌≢◌, ◌==◌, ◌<◌, ◌≤◌, ◌^◌, ◌++◌, [], All, drop, get_or, if◌then◌else◌, length, Ok, Err, None, Some, option_map, slice_get, string_bytes, true, IfErr, IfOk, MatchResult};
+ghost use Rattle.std.specs.Prelude.{◌≡◌, ◌≢◌, ◌==◌, ◌<◌, ◌≤◌, ◌^◌, ◌++◌, [], ◌∷◌, All, drop, get_or, if◌then◌else◌, length, List as ListOf, ℕ, Ok, Err, None, Some, option_map, slice_get, string_bytes, true, IfErr, IfOk, IfSome, MatchOption, MatchResult};
+ghost use Rattle.std.specs.List.{flat_map};
 ghost use Rattle.iri_templates.specs.declared.fault.TemplateFault.TheVariants.{BadChar, NoMemory, Unclosed};
 ghost use Rattle.iri_templates.specs.Filling.{holes_end, parts_over, whole_over};
+ghost use Rattle.iri_templates.specs.Matching.{Gives};
 ghost use Rattle.iri_templates.specs.Parsing.{IsToken, segment_read};
-ghost use Rattle.iri_templates.specs.Templates.{hole_texts, segments_of, template_of, unbounded_from};
-ghost use Rattle.iri_templates.specs.Texts.{filled_text, hole_after};
+ghost use Rattle.iri_templates.specs.Templates.{IsTemplate, hole_texts, holes_in, segments_of, template_of, unbounded_from};
+ghost use Rattle.iri_templates.specs.Texts.{cells_of, filled_text, hole_after};
 
+use crate::matching::match_segments;
 use crate::segments::{count_after, read_parts, read_segment};
 use crate::token::{Token, tokens_of};
 use crate::{HoleCells, Part, Segment, TemplateFault};
 use std::alloc::{AllocError, Global};
 use std::marker::Model;
-use vocabulary::Name;
+use vocabulary::{List, Name};
 
 /// A text with holes. Each hole has a reserved character or an end of the template on either side,
 /// so a template is a list of segments between reserved characters.
@@ -85,6 +88,47 @@ fn fill_segments<H: HoleCells>(
         return Ok(None);
     }
     Ok(Some(Name::from_string(text)))
+}
+
+fn hole_of(segment: &Segment) -> Option<&str>
+    ensures { MatchOption result (holes_in segment.now ≡ []) (λ text. holes_in segment.now ≡ text.now ∷ []) }
+{
+    match segment {
+        Segment::Literal(_) => None,
+        Segment::Hole(text) => Some(text.text()),
+    }
+}
+
+fn hole_in<'a>(first: &'a Segment, rest: &'a [Part], i: u32) -> &'a str
+    requires { i < length (hole_texts (record { first = first.now; rest = rest.now })) }
+    ensures { result.now ≡ get_or (hole_texts (record { first = first.now; rest = rest.now })) i [] }
+{
+    match hole_of(first) {
+        Some(text) => {
+            if i == 0 {
+                text
+            } else {
+                hole_among(rest, i - 1)
+            }
+        }
+        None => hole_among(rest, i),
+    }
+}
+
+fn hole_among(parts: &[Part], i: u32) -> &str
+    requires { i < length (flat_map (λ p. holes_in p.segment) parts.now) }
+    ensures { result.now ≡ get_or (flat_map (λ p. holes_in p.segment) parts.now) i [] }
+{
+    let mut left = i;
+    for part in parts {
+        if let Some(text) = hole_of(&part.segment) {
+            if left == 0 {
+                return text;
+            }
+            left -= 1;
+        }
+    }
+    ""
 }
 
 // Bounded tokens as a template, or the first hole that is not bounded.
@@ -175,6 +219,29 @@ impl Template {
         self.holes
     }
 
+    // The segment in front, and what makes a list of segments a template.
+    pub(crate) fn first(&self) -> &Segment
+        ensures is { result.now ≡ self.now.first }
+        ensures template { IsTemplate self.now }
+        ensures few { length (hole_texts self.now) < 2 ^ 32 }
+    {
+        &self.first
+    }
+
+    pub(crate) fn rest(&self) -> &[Part]
+        ensures { result.now ≡ self.now.rest }
+    {
+        self.rest.as_slice()
+    }
+
+    /// The text between the braces of a hole. Holes count from 0.
+    pub fn hole_text(&self, i: u32) -> &str
+        requires { i < length (hole_texts self.now) }
+        ensures { result.now ≡ get_or (hole_texts self.now) i [] }
+    {
+        hole_in(&self.first, self.rest.as_slice(), i)
+    }
+
     pub fn copy(&self, alloc: Global) -> Result<Template, AllocError>
         ensures { IfOk result (λ t. t ≡ self.now) }
     {
@@ -193,5 +260,15 @@ impl Template {
         ensures { IfOk result (λ text. text ≡ filled_text self.now (H.cells cells.now)) }
     {
         fill_segments(alloc, &self.first, self.rest.as_slice(), cells)
+    }
+
+    /// The texts in the holes that give this text. An escape in a literal is compared as written,
+    /// and in a hole only those bytes are escaped that must be, with digits in upper case.
+    pub fn match_text(&self, alloc: Global, text: &str) -> Result<Option<List<Name>>, AllocError>
+        ensures gives { IfOk result (λ found. IfSome found (Gives self.now text.now)) }
+        ensures fills { IfOk result (λ found. IfSome found (λ texts. filled_text self.now (cells_of texts) ≡ Some text.now)) }
+        ensures only { IfOk result (λ found. (texts : ListOf (ListOf ℕ)) → Gives self.now text.now texts → found ≡ Some texts) }
+    {
+        match_segments(alloc, &self.first, self.rest.as_slice(), text.as_bytes())
     }
 }
