@@ -1,0 +1,2 @@
+//! Subsumption of queries.
+#![tactic(auto)]
