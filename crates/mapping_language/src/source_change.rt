@@ -4,7 +4,7 @@ ghost use Rattle.std.specs.Str.{bytes_eq};
 ghost use Rattle.mapping_language.specs.Tables.{header_or, numbers_of, or_utc, grown, offset_or as offset_of_text};
 ghost use Rattle.jiff_core.specs.Calendar.{IsWithin};
 ghost use Rattle.mapping_language.specs.Changes.{extended, HaveOffsets};
-ghost use Rattle.mapping_language.specs.Shown.{source_shown};
+ghost use Rattle.mapping_language.specs.Shown.{line_shown};
 
 use crate::Sources;
 use crate::source_rules::{header_or, offset_or};
@@ -58,7 +58,7 @@ fn key_of(alloc: Global, table: &TableDecl, columns: &[&str]) -> Result<List<Col
 }
 
 fn extend(alloc: Global, table: &mut TableDecl, line: &SourceLine<'_>) -> Result<(), AllocError>
-    ensures { OnOk result (table.new ≡ extended (source_shown line.now) table.old) }
+    ensures { OnOk result (table.new ≡ extended (line_shown line.now) table.old) }
 {
     match line {
         SourceLine::Table(_, _, _) => Ok(()),
@@ -79,7 +79,7 @@ fn extend_if_named(
     name: &str,
     line: &SourceLine<'_>,
 ) -> Result<(), AllocError>
-    ensures { OnOk result (table.new ≡ (if bytes_eq table.old.name name.now then extended (source_shown line.now) table.old else table.old)) }
+    ensures { OnOk result (table.new ≡ (if bytes_eq table.old.name name.now then extended (line_shown line.now) table.old else table.old)) }
 {
     if table.name.text() == name {
         extend(alloc, table, line)
@@ -94,7 +94,7 @@ fn extend_named(
     name: &str,
     line: &SourceLine<'_>,
 ) -> Result<(), AllocError>
-    ensures { OnOk result (tables.new.items ≡ map (λ table. if bytes_eq table.name name.now then extended (source_shown line.now) table else table) tables.old.items) }
+    ensures { OnOk result (tables.new.items ≡ map (λ table. if bytes_eq table.name name.now then extended (line_shown line.now) table else table) tables.old.items) }
 {
     for i in 0..tables.len() {
         extend_if_named(alloc, &mut tables[i], name, line)?;
@@ -109,7 +109,7 @@ fn change(
     name: &str,
     line: &SourceLine<'_>,
 ) -> Result<(), AllocError>
-    ensures changed { OnOk result (sources.new ≡ record sources.old { tables = map (λ table. if bytes_eq table.name name.now then extended (source_shown line.now) table else table) sources.old.tables }) }
+    ensures changed { OnOk result (sources.new ≡ record sources.old { tables = map (λ table. if bytes_eq table.name name.now then extended (line_shown line.now) table else table) sources.old.tables }) }
     ensures offsets { HaveOffsets sources.old → OnOk result (HaveOffsets sources.new) }
 {
     let mut tables = mem::replace(&mut sources.tables, List::new(alloc)).into_vec();
@@ -163,7 +163,7 @@ pub(crate) fn add_source_line(
     sources: &mut Sources,
     line: &SourceLine<'_>,
 ) -> Result<(), AllocError>
-    ensures grown { OnOk result (sources.new ≡ grown sources.old (source_shown line.now)) }
+    ensures grown { OnOk result (sources.new ≡ grown sources.old (line_shown line.now)) }
     ensures offsets { HaveOffsets sources.old → OnOk result (HaveOffsets sources.new) }
 {
     match line {

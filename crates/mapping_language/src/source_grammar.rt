@@ -3,7 +3,7 @@ ghost use Rattle.std.specs.Prelude.{◌≡◌, map, option_map, codes, IfOk};
 ghost use Rattle.line_lexer.specs.Tokens.{seen};
 ghost use Rattle.line_lexer.specs.Grammar.{name as one_name};
 ghost use Rattle.mapping_language.specs.Grammar.{separated, kind_of, kind, with_text, table_line, column_line, key_line, source_line};
-ghost use Rattle.mapping_language.specs.Shown.{source_shown};
+ghost use Rattle.mapping_language.specs.Shown.{line_shown};
 
 use crate::written::SourceLine;
 use line_lexer::Token;
@@ -77,7 +77,7 @@ fn with_text<'a>(word: &str, tokens: &[Token<'a>]) -> Option<Option<&'a str>>
 
 #[tactic(auto, unfolding(crate::specs::Grammar::table_line))]
 fn table_line<'a>(tokens: &[Token<'a>]) -> Option<SourceLine<'a>>
-    ensures { option_map source_shown result ≡ table_line (map seen tokens.now) }
+    ensures { option_map line_shown result ≡ table_line (map seen tokens.now) }
 {
     let (table, rest) = name(tokens)?;
     let (file, rest) = any_quoted(rest)?;
@@ -87,7 +87,7 @@ fn table_line<'a>(tokens: &[Token<'a>]) -> Option<SourceLine<'a>>
 
 #[tactic(auto, unfolding(crate::specs::Grammar::column_line))]
 fn column_line<'a>(tokens: &[Token<'a>]) -> Option<SourceLine<'a>>
-    ensures { option_map source_shown result ≡ column_line (map seen tokens.now) }
+    ensures { option_map line_shown result ≡ column_line (map seen tokens.now) }
 {
     let (table, rest) = name(tokens)?;
     let (column, rest) = name(rest)?;
@@ -98,7 +98,7 @@ fn column_line<'a>(tokens: &[Token<'a>]) -> Option<SourceLine<'a>>
 
 #[tactic(auto, unfolding(crate::specs::Grammar::key_line))]
 fn key_line<'a>(alloc: Global, tokens: &[Token<'a>]) -> Result<Option<SourceLine<'a>>, AllocError>
-    ensures { IfOk result (λ found. option_map source_shown found ≡ key_line (map seen tokens.now)) }
+    ensures { IfOk result (λ found. option_map line_shown found ≡ key_line (map seen tokens.now)) }
 {
     let Some((table, rest)) = name(tokens) else {
         return Ok(None);
@@ -125,7 +125,7 @@ pub(crate) fn source_line<'a>(
     alloc: Global,
     tokens: &[Token<'a>],
 ) -> Result<Option<SourceLine<'a>>, AllocError>
-    ensures { IfOk result (λ found. option_map source_shown found ≡ source_line (map seen tokens.now)) }
+    ensures { IfOk result (λ found. option_map line_shown found ≡ source_line (map seen tokens.now)) }
 {
     if let Some(rest) = expect("table", tokens) {
         return Ok(table_line(rest));

@@ -6,7 +6,7 @@ ghost use Rattle.jiff_core.specs.Calendar.{IsWithin};
 ghost use Rattle.line_lexer.specs.Faults.{limit_of};
 ghost use Rattle.line_lexer.specs.Judging.{first_passed};
 ghost use Rattle.mapping_language.specs.Tables.{has_column, header_or, offset_or, unknown, double, mismatch, counts, broken};
-ghost use Rattle.mapping_language.specs.Shown.{source_shown};
+ghost use Rattle.mapping_language.specs.Shown.{line_shown};
 
 use crate::Sources;
 use crate::tables::{column_number, has_header, has_twice, table_named, table_number};
@@ -51,7 +51,7 @@ fn lacks_column(table: &TableDecl, columns: &[&str]) -> bool
 
 #[tactic(auto, using(crate::proofs::Lists::any_of_map))]
 fn unknown(sources: &Sources, line: &SourceLine<'_>) -> bool
-    ensures { result ≡ unknown sources.now (source_shown line.now) }
+    ensures { result ≡ unknown sources.now (line_shown line.now) }
 {
     match line {
         SourceLine::Table(_, _, _) => false,
@@ -64,7 +64,7 @@ fn unknown(sources: &Sources, line: &SourceLine<'_>) -> bool
 }
 
 fn double(sources: &Sources, line: &SourceLine<'_>) -> bool
-    ensures { result ≡ double sources.now (source_shown line.now) }
+    ensures { result ≡ double sources.now (line_shown line.now) }
 {
     match line {
         SourceLine::Table(t, _, _) => table_number(sources, t).is_some(),
@@ -79,7 +79,7 @@ fn double(sources: &Sources, line: &SourceLine<'_>) -> bool
 }
 
 fn mismatch(line: &SourceLine<'_>) -> bool
-    ensures { result ≡ mismatch (source_shown line.now) }
+    ensures { result ≡ mismatch (line_shown line.now) }
 {
     match line {
         SourceLine::Table(_, _, offset) => offset_or(*offset).is_none(),
@@ -90,7 +90,7 @@ fn mismatch(line: &SourceLine<'_>) -> bool
 
 // What the line makes pass its number.
 fn passed(sources: &Sources, line: &SourceLine<'_>) -> Option<Counted>
-    ensures { result ≡ first_passed (counts sources.now (source_shown line.now)) }
+    ensures { result ≡ first_passed (counts sources.now (line_shown line.now)) }
 {
     let (what, count) = match line {
         SourceLine::Table(_, _, _) => (Counted::Tables, sources.tables().len()),
@@ -113,7 +113,7 @@ fn passed(sources: &Sources, line: &SourceLine<'_>) -> Option<Counted>
 /// The first rule that the line breaks.
 #[tactic(auto, unfolding(crate::specs::Tables::broken))]
 pub(crate) fn broken(sources: &Sources, line: &SourceLine<'_>) -> Option<LineFault>
-    ensures { result ≡ broken sources.now (source_shown line.now) }
+    ensures { result ≡ broken sources.now (line_shown line.now) }
 {
     if unknown(sources, line) {
         return Some(LineFault::Unknown);
