@@ -1,10 +1,11 @@
 -- Lists through a function on their items.
-use Rattle.std.proofs.Common.{◌≡◌, refl, ap, ◌∙◌, ◌||◌, ℕ, zero, suc, ◌+◌, ◌-◌, ◌<◌, ◌≤◌, Bool, true, false, List, [], ◌∷◌, ◌++◌, Option, map, take, drop, length, get_or, arith, add-one, take_all}
+use Rattle.std.proofs.Common.{◌≡◌, refl, ap, ◌∙◌, ◌||◌, ℕ, zero, suc, ◌+◌, ◌-◌, ◌<◌, ◌≤◌, Bool, true, false, List, [], ◌∷◌, ◌++◌, Option, map, take, drop, length, get_or, arith, add-one, take_all, cond, not, position, option_map, slice_get}
 use Rattle.std.proofs.Math.ListN.{set}
 use Rattle.std.specs.Str.{bytes_eq}
 use Rattle.line_lexer.specs.Judging.{has_twice}
-use Rattle.std.specs.List.{list_any, filter_map}
-use Rattle.std.proofs.lemmas.List.{map-append, take_more}
+use Rattle.std.specs.List.{list_any, filter_map, position_or_len}
+use Rattle.std.proofs.lemmas.Option.{slice_get-map}
+use Rattle.std.proofs.lemmas.List.{map-append, take_more, length-map}
 use Rattle.std.proofs.lemmas.List.Elements.{filter_map-append}
 
 pub any_of_map : {X Y : Type 0} (p : Y → Bool) (f : X → Y) (xs : List X) → list_any p (map f xs) ≡ list_any (λ x. p (f x)) xs
@@ -54,3 +55,14 @@ module _ {T : Type 0} (f : T → List ℕ) where
   twice_later whole (x ∷ xs) d some so is =
       let first : false ≡ list_any (λ t. bytes_eq (f x) (f t)) xs = rw behind_first at is in
       rw (so, behind_first x xs, any_of_map (bytes_eq (f x)) f xs, ← first) refl
+
+position_or_len_of_map : {X Y : Type 0} (p : Y → Bool) (f : X → Y) (xs : List X) → position_or_len p (map f xs) ≡ position_or_len (λ x. p (f x)) xs
+position_or_len_of_map p f [] = refl
+position_or_len_of_map p f (x ∷ xs) = elim (p (f x)) as (λ b. cond (not b) (1 + position_or_len p (map f xs)) 0 ≡ cond (not b) (1 + position_or_len (λ x. p (f x)) xs) 0)
+    [ true ↦ refl | false ↦ ap (λ n. 1 + n) (position_or_len_of_map p f xs) ]
+
+pub position_of_map : {X Y : Type 0} (p : Y → Bool) (f : X → Y) (xs : List X) → position p (map f xs) ≡ position (λ x. p (f x)) xs
+position_of_map p f xs = rw (position_or_len_of_map p f xs, length-map xs f) refl
+
+pub get_of_map : {X Y : Type 0} (f : X → Y) (xs : List X) (k : ℕ) → slice_get (map f xs) k ≡ option_map f (slice_get xs k)
+get_of_map f xs k = slice_get-map f xs k

@@ -1,8 +1,11 @@
 //! The source lines and the mapping lines of a project: what they are, and the tables and mappings that they give.
 #![tactic(auto)]
 
+mod holes;
 mod mapping_grammar;
+mod mapping_rules;
 mod reader;
+mod scope;
 mod source_change;
 mod source_grammar;
 mod source_rules;
