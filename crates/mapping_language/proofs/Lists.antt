@@ -1,11 +1,11 @@
 -- Lists through a function on their items.
-use Rattle.std.proofs.Common.{◌≡◌, refl, ap, ◌∙◌, ◌||◌, ℕ, zero, suc, ◌+◌, ◌-◌, ◌<◌, ◌≤◌, Bool, true, false, List, [], ◌∷◌, ◌++◌, Option, map, take, drop, length, get_or, arith, add-one, take_all, cond, not, position, option_map, slice_get}
+use Rattle.std.proofs.Common.{◌≡◌, refl, ap, ◌∙◌, ◌||◌, ℕ, zero, suc, ◌+◌, ◌-◌, ◌<◌, ◌≤◌, Bool, true, false, List, [], ◌∷◌, ◌++◌, Option, map, take, drop, length, get_or, arith, add-one, take_all, drop-cons, cond, not, position, option_map, slice_get}
 use Rattle.std.proofs.Math.ListN.{set}
 use Rattle.std.specs.Str.{bytes_eq}
 use Rattle.line_lexer.specs.Judging.{has_twice}
 use Rattle.std.specs.List.{list_any, filter_map, position_or_len}
 use Rattle.std.proofs.lemmas.Option.{slice_get-map}
-use Rattle.std.proofs.lemmas.List.{map-append, take_more, length-map}
+use Rattle.std.proofs.lemmas.List.{map-append, take_more, length-map, drop_all}
 use Rattle.std.proofs.lemmas.List.Elements.{filter_map-append}
 
 pub any_of_map : {X Y : Type 0} (p : Y → Bool) (f : X → Y) (xs : List X) → list_any p (map f xs) ≡ list_any (λ x. p (f x)) xs
@@ -66,3 +66,27 @@ position_of_map p f xs = rw (position_or_len_of_map p f xs, length-map xs f) ref
 
 pub get_of_map : {X Y : Type 0} (f : X → Y) (xs : List X) (k : ℕ) → slice_get (map f xs) k ≡ option_map f (slice_get xs k)
 get_of_map f xs k = slice_get-map f xs k
+
+pub map_of_map : {X Y Z : Type 0} (g : Y → Z) (f : X → Y) (xs : List X) → map g (map f xs) ≡ map (λ x. g (f x)) xs
+map_of_map g f [] = refl
+map_of_map g f (x ∷ xs) = ap (λ ys. g (f x) ∷ ys) (map_of_map g f xs)
+
+pub next_alias : {X Y : Type 0} (f : X → Y) (xs : List X) (i : ℕ) (d : X) → i < length xs → map f (take (i + 1) xs) ≡ map f (take i xs) ++ f (get_or xs i d) ∷ []
+next_alias f xs i d lt = mapped_more f xs i d lt
+
+pub mapped_push : {X Y : Type 0} (f : X → Y) (xs : List X) (x : X) → map f (xs ++ x ∷ []) ≡ map f xs ++ f x ∷ []
+mapped_push f xs x = map-append f xs (x ∷ [])
+
+-- whether an item passes a test, read one by one
+module _ {X : Type 0} (p : X → Bool) (whole : Bool) (xs : List X) (i : ℕ) (d : X) (so : whole ≡ list_any p (drop i xs)) where
+  here : i < length xs → whole ≡ (p (get_or xs i d) || list_any p (drop (suc i) xs))
+  here lt = so ∙ ap (list_any p) (drop-cons xs i d lt)
+
+  pub any_now : i < length xs → true ≡ p (get_or xs i d) → true ≡ whole
+  any_now lt is = rw (here lt, ← is) refl
+
+  pub any_later : i < length xs → false ≡ p (get_or xs i d) → whole ≡ list_any p (drop (i + 1) xs)
+  any_later lt is = rw (here lt, ← is, add-one) refl
+
+pub any_never : {X : Type 0} (p : X → Bool) (whole : Bool) (xs : List X) (i : ℕ) → whole ≡ list_any p (drop i xs) → length xs ≤ i → false ≡ whole
+any_never p whole xs i so le = rw (so, drop_all i xs le) refl

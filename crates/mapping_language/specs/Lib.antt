@@ -4,3 +4,4 @@ pub mod Tables
 pub mod Mappings
 pub mod Shown
 pub mod Changes
+pub mod Flaws

@@ -2,8 +2,11 @@
 #![tactic(auto)]
 
 mod holes;
+mod mapping_double;
 mod mapping_grammar;
 mod mapping_rules;
+mod mapping_templates;
+mod mapping_types;
 mod reader;
 mod scope;
 mod source_change;
