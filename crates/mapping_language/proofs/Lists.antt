@@ -3,9 +3,10 @@ use Rattle.std.proofs.Common.{◌≡◌, refl, ap, ◌∙◌, ◌||◌, ℕ, zer
 use Rattle.std.proofs.Math.ListN.{set}
 use Rattle.std.specs.Str.{bytes_eq}
 use Rattle.line_lexer.specs.Judging.{has_twice}
-use Rattle.std.specs.List.{list_any, filter_map, position_or_len}
+use Rattle.std.proofs.lemmas.Grind.{flat_map-append}
+use Rattle.std.specs.List.{list_any, flat_map, filter_map, position_or_len}
 use Rattle.std.proofs.lemmas.Option.{slice_get-map}
-use Rattle.std.proofs.lemmas.List.{map-append, take_more, length-map, drop_all}
+use Rattle.std.proofs.lemmas.List.{map-append, take_more, length-map, drop_all, append-nil}
 use Rattle.std.proofs.lemmas.List.Elements.{filter_map-append}
 
 pub any_of_map : {X Y : Type 0} (p : Y → Bool) (f : X → Y) (xs : List X) → list_any p (map f xs) ≡ list_any (λ x. p (f x)) xs
@@ -71,9 +72,6 @@ pub map_of_map : {X Y Z : Type 0} (g : Y → Z) (f : X → Y) (xs : List X) → 
 map_of_map g f [] = refl
 map_of_map g f (x ∷ xs) = ap (λ ys. g (f x) ∷ ys) (map_of_map g f xs)
 
-pub next_alias : {X Y : Type 0} (f : X → Y) (xs : List X) (i : ℕ) (d : X) → i < length xs → map f (take (i + 1) xs) ≡ map f (take i xs) ++ f (get_or xs i d) ∷ []
-next_alias f xs i d lt = mapped_more f xs i d lt
-
 pub mapped_push : {X Y : Type 0} (f : X → Y) (xs : List X) (x : X) → map f (xs ++ x ∷ []) ≡ map f xs ++ f x ∷ []
 mapped_push f xs x = map-append f xs (x ∷ [])
 
@@ -90,3 +88,19 @@ module _ {X : Type 0} (p : X → Bool) (whole : Bool) (xs : List X) (i : ℕ) (d
 
 pub any_never : {X : Type 0} (p : X → Bool) (whole : Bool) (xs : List X) (i : ℕ) → whole ≡ list_any p (drop i xs) → length xs ≤ i → false ≡ whole
 any_never p whole xs i so le = rw (so, drop_all i xs le) refl
+
+pub length_of_map : {X Y : Type 0} (f : X → Y) (xs : List X) → length (map f xs) ≡ length xs
+length_of_map f xs = length-map xs f
+
+pub next_mapped : {X Y : Type 0} (f : X → Y) (xs : List X) (i : ℕ) (d : X) → i < length xs → map f (take (i + 1) xs) ≡ map f (take i xs) ++ f (get_or xs i d) ∷ []
+next_mapped f xs i d lt = mapped_more f xs i d lt
+
+pub next_gathered : {X Y : Type 0} (f : X → List Y) (xs : List X) (i : ℕ) (d : X) → i < length xs → flat_map f (take (i + 1) xs) ≡ flat_map f (take i xs) ++ f (get_or xs i d)
+next_gathered f xs i d lt = ap (flat_map f) (take_more xs i d lt) ∙ flat_map-append f (take i xs) (get_or xs i d ∷ []) ∙ ap (λ last. flat_map f (take i xs) ++ last) (append-nil (f (get_or xs i d)))
+
+pub gathered_of_map : {X Y Z : Type 0} (g : Y → List Z) (f : X → Y) (xs : List X) → flat_map g (map f xs) ≡ flat_map (λ x. g (f x)) xs
+gathered_of_map g f [] = refl
+gathered_of_map g f (x ∷ xs) = ap (λ ys. g (f x) ++ ys) (gathered_of_map g f xs)
+
+pub mapped_step : {X Y : Type 0} (f : X → Y) (xs : List X) (i : ℕ) (d : X) (old new : List Y) (y : Y) → i < length xs → old ≡ map f (take i xs) → y ≡ f (get_or xs i d) → new ≡ old ++ y ∷ [] → new ≡ map f (take (i + 1) xs)
+mapped_step f xs i d old new y lt so is pushed = rw (pushed, is, so, mapped_more f xs i d lt) refl

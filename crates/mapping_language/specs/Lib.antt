@@ -5,3 +5,4 @@ pub mod Mappings
 pub mod Shown
 pub mod Changes
 pub mod Flaws
+pub mod Built

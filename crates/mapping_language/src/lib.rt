@@ -2,11 +2,14 @@
 #![tactic(auto)]
 
 mod holes;
+mod mapping_build;
+mod mapping_change;
 mod mapping_double;
 mod mapping_grammar;
 mod mapping_rules;
 mod mapping_templates;
 mod mapping_types;
+mod mapping_unknown;
 mod reader;
 mod scope;
 mod source_change;
@@ -16,5 +19,5 @@ mod sources;
 mod tables;
 mod written;
 
-pub use reader::read_source_line;
+pub use reader::{read_mapping_line, read_source_line};
 pub use sources::Sources;

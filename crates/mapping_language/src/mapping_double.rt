@@ -16,7 +16,7 @@ fn is_taken(sources: &Sources, name: &str) -> bool
     sources.mappings().iter().any(|other| other.name.text() == name)
 }
 
-#[tactic(auto, using(crate::proofs::Lists::next_alias, crate::proofs::Lists::mapped_push))]
+#[tactic(auto, using(crate::proofs::Lists::next_mapped, crate::proofs::Lists::mapped_push))]
 fn aliases<'a>(alloc: Global, froms: &[Source<'a>]) -> Result<Vec<&'a str>, AllocError>
     ensures { IfOk result (λ v. map (λ a. a.now) v.items ≡ map (λ from. from.alias.now) froms.now) }
 {

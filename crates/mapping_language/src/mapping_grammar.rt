@@ -1,5 +1,5 @@
 //! The grammar of mapping lines.
-ghost use Rattle.std.specs.Prelude.{◌≡◌, map, option_map, codes, IfOk};
+ghost use Rattle.std.specs.Prelude.{◌≡◌, ◌<◌, length, map, option_map, codes, IfOk, IfSome};
 ghost use Rattle.line_lexer.specs.Tokens.{seen};
 ghost use Rattle.mapping_language.specs.Grammar.{separated, cell as cell_at, other as other_at, nullness as nullness_at, condition as condition_at, term as term_at, target as target_at, source as source_at, conditions as conditions_at, map_line as map_line_at, map_name as map_name_at};
 ghost use Rattle.mapping_language.specs.Shown.{cell_shown, other_shown, condition_shown, term_shown, target_shown, source_shown, map_shown};
@@ -103,7 +103,8 @@ fn sources<'t, 'a>(
     alloc: Global,
     tokens: &'t [Token<'a>],
 ) -> Result<Option<(Vec<Source<'a>>, &'t [Token<'a>])>, AllocError>
-    ensures { IfOk result (λ found. option_map (λ f. (map source_shown f.0.items, map seen f.1.now)) found ≡ separated (codes ",") source_at (map seen tokens.now)) }
+    ensures read { IfOk result (λ found. option_map (λ f. (map source_shown f.0.items, map seen f.1.now)) found ≡ separated (codes ",") source_at (map seen tokens.now)) }
+    ensures some { IfOk result (λ found. IfSome found (λ f. 0 < length f.0.items)) }
 {
     let mut found = Vec::new(alloc);
     let mut left = Left { tokens };
@@ -186,12 +187,13 @@ fn map_name<'t, 'a>(tokens: &'t [Token<'a>]) -> Option<(&'a str, &'t [Token<'a>]
 }
 
 /// The mapping line that the tokens are, if they are one.
-#[tactic(auto, unfolding(crate::specs::Grammar::map_line))]
+#[tactic(auto, using(crate::proofs::Lists::length_of_map), unfolding(crate::specs::Grammar::map_line))]
 pub(crate) fn map_line<'a>(
     alloc: Global,
     tokens: &[Token<'a>],
 ) -> Result<Option<MapLine<'a>>, AllocError>
-    ensures { IfOk result (λ found. option_map map_shown found ≡ map_line_at (map seen tokens.now)) }
+    ensures read { IfOk result (λ found. option_map map_shown found ≡ map_line_at (map seen tokens.now)) }
+    ensures some { IfOk result (λ found. IfSome found (λ m. 0 < length (map_shown m).sources)) }
 {
     let Some((name, rest)) = map_name(tokens) else {
         return Ok(None);

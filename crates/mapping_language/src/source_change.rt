@@ -165,6 +165,7 @@ pub(crate) fn add_source_line(
 ) -> Result<(), AllocError>
     ensures grown { OnOk result (sources.new ≡ grown sources.old (line_shown line.now)) }
     ensures offsets { HaveOffsets sources.old → OnOk result (HaveOffsets sources.new) }
+    ensures mappings { OnOk result (sources.new.mappings ≡ sources.old.mappings) }
 {
     match line {
         SourceLine::Table(name, file, offset) => {
