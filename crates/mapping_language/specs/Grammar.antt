@@ -129,13 +129,19 @@ source tokens = do
 abbrev pub conditions : List Seen → Option (List Condition × List Seen)
 conditions tokens = either (expect (codes "where") tokens) (λ rest. separated (codes "and") condition rest) (Some ([], tokens))
 
--- `map N from T a, T b where COND and COND then ATOMS`; None where the tokens are no such line
-unfoldable pub map_line : List Seen → Option MapLine
-map_line tokens = do
+-- `map N from`
+abbrev pub map_name : List Seen → Option (List ℕ × List Seen)
+map_name tokens = do
   rest ← expect (codes "map") tokens
   n ← name rest
   rest ← expect (codes "from") n.1
-  sources ← separated (codes ",") source rest
+  Some (n.0, rest)
+
+-- `map N from T a, T b where COND and COND then ATOMS`; None where the tokens are no such line
+unfoldable pub map_line : List Seen → Option MapLine
+map_line tokens = do
+  n ← map_name tokens
+  sources ← separated (codes ",") source n.1
   conds ← conditions sources.1
   rest ← expect (codes "then") conds.1
   targets ← separated (codes ",") target rest

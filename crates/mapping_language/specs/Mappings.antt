@@ -241,6 +241,10 @@ row_term_of s m placed = by placed.term
 abbrev pub tables_of : Sources → MapLine → List TableId
 tables_of s m = map (λ source. record { 0 = or_zero (table_number s source.table) }) m.sources
 
+-- a mapping of the name before, or an alias twice
+abbrev pub double : Sources → MapLine → Bool
+double s m = list_any (λ other. bytes_eq other.name m.name) s.mappings || has_twice (map (λ source. source.alias) m.sources)
+
 -- the names of the model: the class of a name; the link of a name with the sort of its second place, which is Object for an association
 module _ (class_of : List ℕ → Option ClassId) (link_of : List ℕ → Option (LinkId × Side)) where
   -- the terms of a target with the sorts of their places; none where the name asks another number of them
@@ -262,10 +266,6 @@ module _ (class_of : List ℕ → Option ClassId) (link_of : List ℕ → Option
   unknown s m = list_any (λ source. not (is_some (table_number s source.table))) m.sources
       || list_any (unknown_cell s m) (all_cells m)
       || list_any (λ t. unknown_name (target_name t)) m.targets
-
-  -- a mapping of the name before, or an alias twice
-  abbrev pub double : Sources → MapLine → Bool
-  double s m = list_any (λ other. bytes_eq other.name m.name) s.mappings || has_twice (map (λ source. source.alias) m.sources)
 
   -- a target or a condition with what does not fit there
   abbrev pub mismatch : Sources → MapLine → Bool

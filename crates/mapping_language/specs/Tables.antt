@@ -76,10 +76,10 @@ double s (Column t c kind header) = of_table (table_named s t) (λ table. has_co
 double s (Key t cs) = false
 
 -- a text that is no offset, and a column that stands twice in a key
-abbrev pub mismatch : Sources → SourceLine → Bool
-mismatch s (Table t file offset) = not (is_some (offset_or offset))
-mismatch s (Column t c kind header) = false
-mismatch s (Key t cs) = has_twice cs
+abbrev pub mismatch : SourceLine → Bool
+mismatch (Table t file offset) = not (is_some (offset_or offset))
+mismatch (Column t c kind header) = false
+mismatch (Key t cs) = has_twice cs
 
 -- what there is with the line
 abbrev pub counts : Sources → SourceLine → List (Counted × ℕ)
@@ -89,7 +89,7 @@ counts s (Key t cs) = (Keys, count_in (table_named s t) (λ table. length table.
 
 -- the first rule that a source line breaks
 unfoldable pub broken : Sources → SourceLine → Option LineFault
-broken s line = first_broken ((unknown s line, Unknown) ∷ (double s line, Double) ∷ (mismatch s line, TypeMismatch) ∷ []) (counts s line)
+broken s line = first_broken ((unknown s line, Unknown) ∷ (double s line, Double) ∷ (mismatch line, TypeMismatch) ∷ []) (counts s line)
 
 abbrev pub or_utc : Option ℤ → ℤ
 or_utc None = pos 0

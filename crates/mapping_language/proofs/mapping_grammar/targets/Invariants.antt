@@ -1,0 +1,9 @@
+use Rattle.std.proofs.Common.{◌≡◌, ◌-◌, length, map, codes}
+use Rattle.line_lexer.specs.Tokens.{seen}
+use Rattle.mapping_language.specs.Grammar.{at_most, separated, target}
+use Rattle.mapping_language.specs.Shown.{target_shown}
+use Rattle.mapping_language.proofs.Ahead.{ahead}
+use Rattle.mapping_language.proofs.mapping_grammar.targets.Given as goal
+
+abbrev pub invariant-loop-i : goal.invariant-loop-i
+invariant-loop-i l = separated (codes ",") target (map seen l.tokens) ≡ ahead (map target_shown l.found.items) (at_most (length l.tokens - l._i) (codes ",") target (map seen l.left.tokens.now))

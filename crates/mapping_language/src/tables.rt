@@ -1,0 +1,81 @@
+//! Tables and columns by their names, and texts that stand twice.
+ghost use Rattle.std.specs.Prelude.{◌≡◌, map, position};
+ghost use Rattle.std.specs.List.{list_any};
+ghost use Rattle.std.specs.Option.{option_copied};
+ghost use Rattle.std.specs.Str.{bytes_eq};
+ghost use Rattle.line_lexer.specs.Judging.{has_twice};
+ghost use Rattle.mapping_language.specs.Tables.{table_number, table_named, column_number, column_named, has_header};
+
+use crate::Sources;
+use source_tables::{ColumnDecl, TableDecl};
+
+/// The number of a table.
+pub(crate) fn table_number(sources: &Sources, name: &str) -> Option<usize>
+    ensures { result ≡ table_number sources.now name.now }
+{
+    sources.tables().iter().position(|t| t.name.text() == name)
+}
+
+/// The table of a name.
+pub(crate) fn table_named<'s>(sources: &'s Sources, name: &str) -> Option<&'s TableDecl>
+    ensures { option_copied result ≡ table_named sources.now name.now }
+{
+    let number = table_number(sources, name)?;
+    sources.tables().get(number)
+}
+
+/// The number of a column of a table.
+pub(crate) fn column_number(table: &TableDecl, name: &str) -> Option<usize>
+    ensures { result ≡ column_number table.now name.now }
+{
+    table
+        .columns
+        .items()
+        .iter()
+        .position(|c| c.name.text() == name)
+}
+
+/// The column of a name in a table.
+pub(crate) fn column_named<'s>(table: &'s TableDecl, name: &str) -> Option<&'s ColumnDecl>
+    ensures { option_copied result ≡ column_named table.now name.now }
+{
+    let number = column_number(table, name)?;
+    table.columns.items().get(number)
+}
+
+/// Whether a column of the table has this header text.
+pub(crate) fn has_header(table: &TableDecl, text: &str) -> bool
+    ensures { result ≡ has_header table.now text.now }
+{
+    table
+        .columns
+        .items()
+        .iter()
+        .any(|c| c.header.text() == text)
+}
+
+fn is_among(text: &str, texts: &[&str]) -> bool
+    ensures { result ≡ list_any (λ t. bytes_eq text.now t.now) texts.now }
+{
+    texts.iter().any(|other| text == *other)
+}
+
+/// The texts that are still to be compared with those behind them.
+#[derive(Drop)]
+struct Left<'t, 'a> {
+    texts: &'t [&'a str],
+}
+
+/// Whether a text stands twice.
+pub(crate) fn has_twice(texts: &[&str]) -> bool
+    ensures { result ≡ has_twice (map (λ t. t.now) texts.now) }
+{
+    let mut left = Left { texts };
+    while let [text, behind @ ..] = left.texts {
+        if is_among(text, behind) {
+            return true;
+        }
+        left.texts = behind;
+    }
+    false
+}
