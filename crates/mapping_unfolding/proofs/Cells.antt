@@ -258,7 +258,3 @@ term_within k (Fixed t) h = All-nil (ConditionFits k)
 pub defined_within : (k : ℕ) (g : Target) → TargetFits k g → All (ConditionFits k) (defined_target g)
 defined_within k (ClassTarget a r) h = term_within k r h
 defined_within k (LinkTarget p r s) h = All-append (ConditionFits k) (defined_term r) (defined_term s) (term_within k r h.0) (term_within k s h.1)
-
-pub target_wider : (n k : ℕ) (g : Target) → n ≤ k → TargetFits n g → TargetFits k g
-target_wider n k (ClassTarget a r) l w = term_wider n k r l w
-target_wider n k (LinkTarget p r s) l w = (term_wider n k r l w.0, term_wider n k s l w.1)

@@ -4,7 +4,7 @@ use Rattle.std.specs.Prelude.{IfOk, IfSome, Result, Ok, Err}
 use Rattle.std.specs.List.{list_all}
 use Rattle.std.proofs.lemmas.List.Elements.{All-nil, All-cons, All-head, All-tail, All-get_or, All-map, All-weaker}
 use Rattle.vocabulary.specs.declared.ids.ValueKind.{ValueKind}
-use Rattle.vocabulary.specs.declared.term.Term.{Term, New', Named, Value}
+use Rattle.vocabulary.specs.declared.term.Term.{Term, Named, Value}
 use Rattle.iri_templates.specs.declared.unifier.Meet.{Meet}
 use Rattle.iri_templates.specs.declared.unifier.Meet.TheVariants.{Same, First, Second}
 use Rattle.iri_templates.specs.declared.unifier.Unifier.{Unifier}
@@ -34,10 +34,6 @@ decides_turned (Some cs) c r s x = λ t u et eu. (let y = x u t eu et in ((λ h.
 pub equates_turned : (r s : RowTerm) (o : Option (List Condition)) → Equates r s o → Equates s r o
 equates_turned r s o e = record { decides = λ v w c texts. decides_turned o c r s (e.decides w v c texts); fits = λ n v w. e.fits n w v }
 
--- terms that are never equal
-never : (r s : RowTerm) → ((c : CellsAt) (t u : Term) → term_at c r ≡ Some t → term_at c s ≡ Some u → t ≡ u → ⊥) → Equates r s None
-never r s h = record { decides = λ v w c texts t u et eu same. h c t u et eu same; fits = λ n v w. tt }
-
 -- terms that are equal where one condition holds
 once : (r s : RowTerm) (x : Condition) → ((c : CellsAt) (t u : Term) → term_at c r ≡ Some t → term_at c s ≡ Some u → Holds c x ↔ (t ≡ u)) →
     ((n : ℕ) → All (PlaceFits n) (term_places r) → All (PlaceFits n) (term_places s) → ConditionFits n x) → Equates r s (Some (x ∷ []))
@@ -45,47 +41,6 @@ once r s x h fits = record {
   decides = λ v w c texts t u et eu. ((λ k. (h c t u et eu).0 (all_hold c (x ∷ []) k).0), (λ same. hold_all c (x ∷ []) ((h c t u et eu).1 same, tt)));
   fits = λ n v w. All-cons (ConditionFits n) x [] (fits n v w) (All-nil (ConditionFits n));
 }
-
--- an object, a value and a fresh term
-abbrev IsObject : Term → Type 0
-IsObject (Named n) = Unit {0}
-IsObject (Value k n) = ⊥
-IsObject (New' p d s r) = ⊥
-
-abbrev IsValue : Term → Type 0
-IsValue (Named n) = ⊥
-IsValue (Value k n) = Unit {0}
-IsValue (New' p d s r) = ⊥
-
-iri_object : (c : CellsAt) (a : Segments) (ps : List Place) (t : Term) → term_at c (Iri a ps) ≡ Some t → IsObject t
-iri_object c a ps t e = let x = iri_some c a ps t e in subst IsObject x.2 tt
-
-cell_value : (c : CellsAt) (k : ValueKind) (p : Place) (t : Term) → term_at c (CellTerm k p) ≡ Some t → IsValue t
-cell_value c k p t e = let x = mapped_some (Value k) (c p) t e in subst IsValue x.2 tt
-
-not_both : (t : Term) → IsObject t → IsValue t → ⊥
-not_both (Named n) h k = k
-not_both (Value k n) h l = h
-not_both (New' p d s r) h k = h
-
-pub iri_and_cell : (a : Segments) (ps : List Place) (k : ValueKind) (q : Place) → Equates (Iri a ps) (CellTerm k q) None
-iri_and_cell a ps k q = never (Iri a ps) (CellTerm k q) (λ c t u et eu same. not_both t (iri_object c a ps t et) (subst IsValue (sym same) (cell_value c k q u eu)))
-
-pub constant_and_iri : (v : Term) (a : Segments) (ps : List Place) → (IsObject v → ⊥) → Equates (Fixed v) (Iri a ps) None
-constant_and_iri v a ps not = never (Fixed v) (Iri a ps) (λ c t u et eu same. not (subst IsObject (sym (some_is v t et ∙ same)) (iri_object c a ps u eu)))
-
-pub constant_and_cell : (v : Term) (k : ValueKind) (p : Place) → (IsValue v → ⊥) → Equates (Fixed v) (CellTerm k p) None
-constant_and_cell v k p not = never (Fixed v) (CellTerm k p) (λ c t u et eu same. not (subst IsValue (sym (some_is v t et ∙ same)) (cell_value c k p u eu)))
-
--- two constants
-pub same_constants : (v w : Term) → v ≡ w → Equates (Fixed v) (Fixed w) (Some [])
-same_constants v w e = record {
-  decides = λ _ _ c texts t u et eu. ((λ h. sym (some_is v t et) ∙ (e ∙ some_is w u eu)), (λ z. refl));
-  fits = λ n _ _. All-nil (ConditionFits n);
-}
-
-pub other_constants : (v w : Term) → (v ≡ w → ⊥) → Equates (Fixed v) (Fixed w) None
-other_constants v w not = never (Fixed v) (Fixed w) (λ c t u et eu same. not (some_is v t et ∙ (same ∙ sym (some_is w u eu))))
 
 -- cells
 value_parts : (k l : ValueKind) (m n : List ℕ) → Value k m ≡ Value l n → (k ≡ l) × (m ≡ n)
@@ -102,12 +57,6 @@ cells_alike k l p q same = once (CellTerm k p) (CellTerm l q) (Equal p q) exact 
           (λ z. (x.0, x.1, y.1 ∙ ap Some (sym (value_parts k l x.0 y.0 (x.2 ∙ (z ∙ sym y.2))).1))),
         )
 
-pub cells_unlike : (k l : ValueKind) (p q : Place) → (k ≡ l → ⊥) → Equates (CellTerm k p) (CellTerm l q) None
-cells_unlike k l p q not = never (CellTerm k p) (CellTerm l q) (λ c t u et eu same.
-    (let x = mapped_some (Value k) (c p) t et in
-    let y = mapped_some (Value l) (c q) u eu in
-    not (value_parts k l x.0 y.0 (x.2 ∙ (same ∙ sym y.2))).0))
-
 pub value_alike : (l : ValueKind) (n : List ℕ) (k : ValueKind) (p : Place) → l ≡ k → Equates (Fixed (Value l n)) (CellTerm k p) (Some (EqualText p n ∷ []))
 value_alike l n k p same = once (Fixed (Value l n)) (CellTerm k p) (EqualText p n) exact (λ m v w. All-head (PlaceFits m) p [] w)
   where
@@ -117,10 +66,6 @@ value_alike l n k p same = once (Fixed (Value l n)) (CellTerm k p) (EqualText p 
           (λ h. sym (some_is (Value l n) t et) ∙ ((λ i. Value (same i) (some_is n y.0 (sym h ∙ y.1) i)) ∙ y.2)),
           (λ z. y.1 ∙ ap Some (sym (value_parts l k n y.0 (some_is (Value l n) t et ∙ (z ∙ sym y.2))).1)),
         )
-
-pub value_unlike : (l : ValueKind) (n : List ℕ) (k : ValueKind) (p : Place) → (l ≡ k → ⊥) → Equates (Fixed (Value l n)) (CellTerm k p) None
-value_unlike l n k p not = never (Fixed (Value l n)) (CellTerm k p) (λ c t u et eu same.
-    (let y = mapped_some (Value k) (c p) u eu in not (value_parts l k n y.0 (some_is (Value l n) t et ∙ (same ∙ sym y.2))).0))
 
 -- the texts of places
 texts_count : (c : CellsAt) (ps : List Place) (us : List (List ℕ)) → texts_of (map c ps) ≡ Some us → length us ≡ length ps

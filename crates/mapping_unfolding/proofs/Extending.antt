@@ -29,16 +29,10 @@ use Rattle.mapping_unfolding.proofs.Texts.{are_tables}
 use Rattle.mapping_unfolding.proofs.Whole.{named_fits}
 
 -- lists that grow
-pub kept_itself : (xs : List Draft) → Kept xs xs
-kept_itself xs u i = i
-
 pub kept_on : (xs ys zs : List Draft) → Kept xs ys → Kept ys zs → Kept xs zs
 kept_on xs ys zs k l u i = l u (k u i)
 
 module _ (mappings : List Mapping) where
-  pub only_itself : (atoms : List Atom) (d : Draft) (xs : List Draft) → OnlyUnfold mappings atoms d xs xs
-  only_itself atoms d xs u i = inl i
-
   pub only_on : (atoms : List Atom) (d : Draft) (xs ys zs : List Draft) → OnlyUnfold mappings atoms d xs ys → OnlyUnfold mappings atoms d ys zs → OnlyUnfold mappings atoms d xs zs
   only_on atoms d xs ys zs o p u i = elim (p u i) [ inl j ↦ o u j | inr h ↦ inr h ]
 
