@@ -1,5 +1,5 @@
 -- The reach of a small query.
-use Rattle.std.proofs.Common.{ℕ, refl, List, [], ◌∷◌}
+use Rattle.std.proofs.Common.{ℕ, ◌≡◌, refl, List, [], ◌∷◌}
 use Rattle.vocabulary.specs.declared.ids.ClassId.{ClassId}
 use Rattle.vocabulary.specs.declared.ids.LinkId.{LinkId}
 use Rattle.vocabulary.specs.declared.ids.Dir.TheVariants.{Fwd, Back}
@@ -12,6 +12,7 @@ use Rattle.queries.specs.declared.query.Arg.TheVariants.{Blank, Var}
 use Rattle.queries.specs.declared.query.Atom.TheVariants.{InClass, Linked}
 use Rattle.queries.specs.declared.query.Query.{Query}
 use Rattle.queries.specs.Changes.{blank_left, link_meet, same_var, unify}
+use Rattle.perfect_rewriting.specs.Listing.{steps_below}
 use Rattle.perfect_rewriting.specs.Reach.{query_at, Reach, start, by_rule, by_unify}
 use Rattle.perfect_rewriting.specs.Steps.{by_basics, rule}
 
@@ -47,3 +48,7 @@ three = by_unify two (unify (first refl) (first refl) (link_meet blank_left (sam
 
 four : Reach reviews about_paper (query_at (x ∷ []) (InClass (class 0) x ∷ []))
 four = by_rule three (rule (by_basics (Class (class 0)) (Has (link 0) Fwd) x (there (there (here refl)))) (first refl))
+
+-- the steps from it as a list: by the paper's rule alone, since the link's other end is bound
+steps_listed : steps_below reviews (query_at (x ∷ []) (InClass (class 1) y ∷ Linked (link 0) x y ∷ [])) 2 ≡ query_at (x ∷ []) (Linked (link 0) Blank y ∷ Linked (link 0) x y ∷ []) ∷ []
+steps_listed = refl
