@@ -1,0 +1,5 @@
+pub mod Chains
+pub mod Laws
+pub mod Order
+pub mod Plans
+pub mod Sources
