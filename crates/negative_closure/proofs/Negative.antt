@@ -113,11 +113,11 @@ module _ {axioms : List Axiom} {facts : List Fact} where
         | inr o ↦ elim (trace m' c t h') [
           | inl o' ↦ absurd (new_unknown o.p o.d o.s (rw o.is_new at (match_known o'.basic o'.fact t (known o'.fact o'.is_given) o'.matches)))
           | inr o' ↦ (
-            let same : New o'.p o'.d o'.s ≡ New o.p o.d o.s = sym o'.is_new ∙ o.is_new in
-            let to_c : Chain axioms (Has o.p (other o.d)) c = subst (λ x. Chain axioms x c) (λ i. Has (new_link o'.s o.s same i) (other (new_dir o'.s o.s same i))) o'.chain in
-            let r = down known (depth o.s) (Has o.p o.d) o.s (omega arith) (across (in_both o.chain to_c)) o.born (match_right (Has o.p o.d) o.s) in
-            (One r.0, one r.3, (r.1, r.1, r.4, r.4, (refl, (r.2, r.5))))
-          )
+              let same : New o'.p o'.d o'.s ≡ New o.p o.d o.s = sym o'.is_new ∙ o.is_new in
+              let to_c : Chain axioms (Has o.p (other o.d)) c = subst (λ x. Chain axioms x c) (λ i. Has (new_link o'.s o.s same i) (other (new_dir o'.s o.s same i))) o'.chain in
+              let r = down known (depth o.s) (Has o.p o.d) o.s (omega arith) (across (in_both o.chain to_c)) o.born (match_right (Has o.p o.d) o.s) in
+              (One r.0, one r.3, (r.1, r.1, r.4, r.4, (refl, (r.2, r.5))))
+              )
         ]
       ]
 
