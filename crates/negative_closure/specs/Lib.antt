@@ -5,3 +5,4 @@ pub mod Numbers
 pub mod Order
 pub mod Plans
 pub mod Sources
+pub mod Trails

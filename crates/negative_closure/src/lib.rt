@@ -3,11 +3,14 @@
 
 mod axiom_index;
 mod basics;
+mod downs;
 mod forest;
 mod growing;
 pub mod laws;
 mod plan;
 mod source;
+mod trail;
 
+pub use downs::Downs;
 pub use plan::Plan;
 pub use source::Source;
