@@ -67,7 +67,7 @@ link_known : (p : LinkId) (d : Dir) (s t : Term) {f : Fact} → IsKnownFact f �
 link_known p Fwd s t k e = (rw e at k).0
 link_known p Back s t k e = (rw e at k).1
 
-no_empty_func : {axioms : List Axiom} {p : LinkId} {d : Dir} {x : Basic} → Empty axioms (Func p d) x → ⊥
+pub no_empty_func : {axioms : List Axiom} {p : LinkId} {d : Dir} {x : Basic} → Empty axioms (Func p d) x → ⊥
 no_empty_func (below k e) = no_empty_func e
 no_empty_func (across e) = no_empty_func e
 

@@ -152,7 +152,7 @@ pub trail_path : (axioms : List Axiom) (from to : Basic) (t : Trail) → IsTrail
 trail_path axioms from to t h = record { passed = h.passed; follows = winds_follow (subst (λ z. Winds axioms false z from t.numbers h.passed) (sym (only_item h.ends)) h.winds); once = h.once }
 
 -- chains and what reaches by axioms
-chain_back : {axioms : List Axiom} {starts : List Basic} {x y : Basic} {may : Bool} → Chain axioms x y → Reaches axioms may starts y → Reaches axioms may starts x
+pub chain_back : {axioms : List Axiom} {starts : List Basic} {x y : Basic} {may : Bool} → Chain axioms x y → Reaches axioms may starts y → Reaches axioms may starts x
 chain_back {axioms} {starts} {may = may} (stay e) r = subst (Reaches axioms may starts) (sym e) r
 chain_back (along ax k m by_sub) r = chain_back k (hopped (by_axiom m) r)
 

@@ -48,10 +48,12 @@ pub record IsTrail (axioms : List Axiom) (across : Bool) (starts : List Basic) (
   pub once : NoneTwice passed
   pub few : length t.numbers < 1600
 
--- the list at each basic's number holds, in order, what a chain leads from to the basic
-abbrev pub AreBelow : Hierarchy → ℕ → List (List Basic) → Type 0
-AreBelow h n rows = (y : Basic) → IsWithin h.classes h.links y → number h.classes y < n → IsListOf basic_cmp (λ x. Chain h.axioms x y) (get_or rows (number h.classes y) [])
+-- the list holds, in order, what a chain leads from to the basic
+pub record IsRow (h : Hierarchy) (y : Basic) (row : List Basic) : Type 0 where
+  pub listed : IsListOf basic_cmp (λ x. Chain h.axioms x y) row
+  pub within : (x : Basic) → In x row → IsWithin h.classes h.links x
 
+-- so many lists stand at the numbers of their basics
 pub record IsTable (h : Hierarchy) (n : ℕ) (rows : List (List Basic)) : Type 0 where
   pub counted : length rows ≡ n
-  pub below : AreBelow h n rows
+  pub below : (y : Basic) → IsWithin h.classes h.links y → number h.classes y < n → IsRow h y (get_or rows (number h.classes y) [])

@@ -22,6 +22,8 @@ pub(crate) fn grow(
     starts: &[Basic],
 ) -> Result<Forest, AllocError>
     requires { (x : BasicOf) → In x starts.now → IsWithin index.now.classes index.now.links x }
+    ensures classes { IfOk result (λ f. f.classes ≡ index.now.classes) }
+    ensures links { IfOk result (λ f. f.links ≡ index.now.links) }
     ensures ways { IfOk result (λ f. IsForest index.now.axioms across starts.now f.found) }
     ensures all { IfOk result (λ f. (x : BasicOf) → Reaches index.now.axioms across starts.now x → In x (basics_of f.found)) }
 {

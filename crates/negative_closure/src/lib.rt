@@ -9,6 +9,7 @@ mod growing;
 pub mod laws;
 mod plan;
 mod source;
+mod sources;
 mod trail;
 
 pub use downs::Downs;
