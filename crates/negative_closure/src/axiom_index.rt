@@ -59,6 +59,7 @@ impl AxiomIndex {
     pub(crate) fn classes(&self) -> u32
         ensures count { result ≡ self.now.classes }
         ensures few { result ≤ 400 }
+        ensures few_axioms { length self.now.axioms < 2 ^ 32 - 1 }
     {
         self.classes
     }

@@ -8,6 +8,7 @@ mod forest;
 mod growing;
 pub mod laws;
 mod plan;
+mod plans;
 mod source;
 mod sources;
 mod trail;
