@@ -15,6 +15,7 @@ use Rattle.dllite_axioms.specs.Basics.{match_at, right_side}
 use Rattle.dllite_axioms.specs.Chase.{apply_of}
 use Rattle.dllite_axioms.proofs.Firing.{match_right, apply_at}
 use Rattle.negative_closure.specs.declared.plan.Plan.{Plan}
+use Rattle.negative_closure.specs.declared.plans.Climb.{Climb}
 use Rattle.negative_closure.specs.declared.plans.Rules.{Rules}
 use Rattle.negative_closure.specs.declared.source.Source.TheVariants.{One, Two}
 use Rattle.negative_closure.specs.Plans.{item, rule_fact, run_of, EndsInClash}
@@ -122,48 +123,61 @@ chained (crossed {p = p} {d = d} may w) steps n l j f t at m =
       same = λ no. absurd (let wrong : true ≡ false = sym may ∙ no in cc);
     }
 
--- two chains from facts that match at one term end in a clash
-pub closed_clash : (axioms : List Axiom) (b c x y : Basic) (i j n : ℕ) (before : List (ℕ × ℕ)) (plan : Plan) (steps : List Fact) → length steps ≡ n → (start : List Fact) →
-    ((rest : List (ℕ × ℕ)) → run_of axioms start (before ++ rest) ≡ run_of axioms steps rest) → (f g : Fact) (t : Term) → item steps i ≡ Some f → item steps j ≡ Some g → match_at x f ≡ Some t → match_at y g ≡ Some t →
-    IsClosed axioms b c x y i j (record { rules = before; steps = n }) plan → EndsInClash axioms (Disjoint b c) start plan
-closed_clash axioms b c x y i j n before plan steps l start runs f g t at at' m m' closed =
-    let r = chained closed.winds_b steps n l i f t at m in
-    let long : length (steps ++ r.more) ≡ n + length closed.to_b = omega (arith, l, r.longer, length-append steps r.more) in
-    let s = chained closed.winds_c (steps ++ r.more) (n + length closed.to_b) long j g t (kept_item steps r.more j g at') m' in
-    let rules_b = chain_rules closed.to_b i n in
-    let rules_c = chain_rules closed.to_c j (n + length closed.to_b) in
-    let all : plan.rules ≡ before ++ (rules_b ++ (rules_c ++ [])) = closed.made ∙ append_assoc before rules_b rules_c ∙ ap (λ xs. before ++ (rules_b ++ xs)) (sym (append_nothing rules_c)) in
+-- two ways from facts that match at one term end in a clash
+pub closed_clash : (axioms : List Axiom) (left right : Climb) (n : ℕ) (before : List (ℕ × ℕ)) (plan : Plan) (steps : List Fact) → length steps ≡ n → (start : List Fact) →
+    ((rest : List (ℕ × ℕ)) → run_of axioms start (before ++ rest) ≡ run_of axioms steps rest) → (f g : Fact) (t : Term) → item steps left.step ≡ Some f → item steps right.step ≡ Some g →
+    match_at left.from f ≡ Some t → match_at right.from g ≡ Some t → IsClosed axioms left right (record { rules = before; steps = n }) plan → EndsInClash axioms (Disjoint left.to right.to) start plan
+closed_clash axioms left right n before plan steps l start runs f g t at at' m m' closed =
+    let r = chained closed.winds_left steps n l left.step f t at m in
+    let long : length (steps ++ r.more) ≡ n + length closed.to_left = omega (arith, l, r.longer, length-append steps r.more) in
+    let s = chained closed.winds_right (steps ++ r.more) (n + length closed.to_left) long right.step g t (kept_item steps r.more right.step g at') m' in
+    let rules_left = chain_rules closed.to_left left.step n in
+    let rules_right = chain_rules closed.to_right right.step (n + length closed.to_left) in
+    let all : plan.rules ≡ before ++ (rules_left ++ (rules_right ++ [])) = closed.made ∙ append_assoc before rules_left rules_right ∙ ap (λ xs. before ++ (rules_left ++ xs)) (sym (append_nothing rules_right)) in
     record {
       facts = (steps ++ r.more) ++ s.more;
-      run = ap (run_of axioms start) all ∙ runs (rules_b ++ (rules_c ++ [])) ∙ r.runs (rules_c ++ []) ∙ s.runs [];
+      run = ap (run_of axioms start) all ∙ runs (rules_left ++ (rules_right ++ [])) ∙ r.runs (rules_right ++ []) ∙ s.runs [];
       first = r.fact;
       second = s.fact;
-      first_is = ap (item ((steps ++ r.more) ++ s.more)) closed.first ∙ kept_item (steps ++ r.more) s.more (chain_end closed.to_b i n) r.fact r.at_end;
+      first_is = ap (item ((steps ++ r.more) ++ s.more)) closed.first ∙ kept_item (steps ++ r.more) s.more (chain_end closed.to_left left.step n) r.fact r.at_end;
       second_is = ap (item ((steps ++ r.more) ++ s.more)) closed.second ∙ s.at_end;
       clash = (t, r.matches ∙ ap (λ z. Some z) (r.same refl), s.matches ∙ ap (λ z. Some z) (s.same refl));
     }
 
 -- the plan of two basics
-pub two_clash : (axioms : List Axiom) (b c x y : Basic) (plan : Plan) (none : List (ℕ × ℕ)) → none ≡ [] → IsClosed axioms b c x y 1 2 (record { rules = none; steps = 2 }) plan → (f g : Fact) → IsMetBy (Two x y) f g → EndsInClash axioms (Disjoint b c) (f ∷ g ∷ []) plan
+pub two_clash : (axioms : List Axiom) (b c x y : Basic) (plan : Plan) (none : List (ℕ × ℕ)) → none ≡ [] → IsClosed axioms (record { from = x; step = 1; to = b }) (record { from = y; step = 2; to = c }) (record { rules = none; steps = 2 }) plan →
+    (f g : Fact) → IsMetBy (Two x y) f g → EndsInClash axioms (Disjoint b c) (f ∷ g ∷ []) plan
 two_clash axioms b c x y plan none e closed f g met =
-    closed_clash axioms b c x y 1 2 2 none plan (f ∷ g ∷ []) refl (f ∷ g ∷ []) (λ rest. ap (λ xs. run_of axioms (f ∷ g ∷ []) (xs ++ rest)) e) f g met.0 refl refl met.1 met.2 closed
+    closed_clash axioms (record { from = x; step = 1; to = b }) (record { from = y; step = 2; to = c }) 2 none plan (f ∷ g ∷ []) refl (f ∷ g ∷ []) (λ rest. ap (λ xs. run_of axioms (f ∷ g ∷ []) (xs ++ rest)) e)
+    f g met.0 refl refl met.1 met.2 closed
 
 -- the plan of an empty basic
 pub one_clash : (axioms : List Axiom) (b c x z : Basic) (numbers : List ℕ) (passed : List Basic) (plan : Plan) (rules : List (ℕ × ℕ)) (steps step : ℕ) → Winds axioms true z x numbers passed →
     rules ≡ chain_rules numbers 1 2 → steps ≡ 2 + length numbers → step ≡ chain_end numbers 1 2 →
-    IsClosed axioms b c z z step step (record { rules = rules; steps = steps }) plan → (f g : Fact) → IsMetBy (One x) f g → EndsInClash axioms (Disjoint b c) (f ∷ g ∷ []) plan
+    IsClosed axioms (record { from = z; step = step; to = b }) (record { from = z; step = step; to = c }) (record { rules = rules; steps = steps }) plan →
+    (f g : Fact) → IsMetBy (One x) f g → EndsInClash axioms (Disjoint b c) (f ∷ g ∷ []) plan
 one_clash axioms b c x z numbers passed plan rules steps step winds made counted end closed f g met =
     let r = chained winds (f ∷ g ∷ []) 2 refl 1 f met.1.0 refl met.1.1 in
     let at : item ((f ∷ g ∷ []) ++ r.more) step ≡ Some r.fact = ap (item ((f ∷ g ∷ []) ++ r.more)) end ∙ r.at_end in
-    closed_clash axioms b c z z step step steps rules plan ((f ∷ g ∷ []) ++ r.more) (omega (arith, r.longer, counted, length-append (f ∷ g ∷ []) r.more)) (f ∷ g ∷ [])
-    (λ rest. ap (λ xs. run_of axioms (f ∷ g ∷ []) (xs ++ rest)) made ∙ r.runs rest) r.fact r.fact r.term at at r.matches r.matches closed
+    closed_clash axioms (record { from = z; step = step; to = b }) (record { from = z; step = step; to = c }) steps rules plan ((f ∷ g ∷ []) ++ r.more)
+    (omega (arith, r.longer, counted, length-append (f ∷ g ∷ []) r.more)) (f ∷ g ∷ []) (λ rest. ap (λ xs. run_of axioms (f ∷ g ∷ []) (xs ++ rest)) made ∙ r.runs rest) r.fact r.fact r.term at at r.matches r.matches closed
 
 -- a plan is short
-pub closed_few : (axioms : List Axiom) (b c x y : Basic) (i j : ℕ) (rules : Rules) (plan : Plan) → length rules.rules ≤ 1600 → IsClosed axioms b c x y i j rules plan → length plan.rules ≤ 4800
-closed_few axioms b c x y i j rules plan few closed =
-    let rules_b = chain_rules closed.to_b i rules.steps in
-    let rules_c = chain_rules closed.to_c j (rules.steps + length closed.to_b) in
-    omega (arith, ap length closed.made, length-append (rules.rules ++ rules_b) rules_c, length-append rules.rules rules_b, rules_length closed.to_b i rules.steps, rules_length closed.to_c j (rules.steps + length closed.to_b), closed.few_b, closed.few_c, few)
+pub closed_few : (axioms : List Axiom) (left right : Climb) (rules : Rules) (plan : Plan) → length rules.rules ≤ 1600 → IsClosed axioms left right rules plan → length plan.rules ≤ 4800
+closed_few axioms left right rules plan few closed =
+    let rules_left = chain_rules closed.to_left left.step rules.steps in
+    let rules_right = chain_rules closed.to_right right.step (rules.steps + length closed.to_left) in
+    omega (
+      arith,
+      ap length closed.made,
+      length-append (rules.rules ++ rules_left) rules_right,
+      length-append rules.rules rules_left,
+      rules_length closed.to_left left.step rules.steps,
+      rules_length closed.to_right right.step (rules.steps + length closed.to_left),
+      closed.few_left,
+      closed.few_right,
+      few,
+    )
 
 func_met : {axioms : List Axiom} {p : LinkId} {d : Dir} {s : Source} → IsSource axioms (Func p d) s → (f g : Fact) → IsMetBy s f g → Clash (Func p d) f g
 func_met (one e) f g met = absurd (no_empty_func e)
