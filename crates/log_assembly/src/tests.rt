@@ -207,15 +207,7 @@ fn submissions(alloc: Global) -> Result<Noted, AllocError> {
     Ok(submit)
 }
 
-#[test]
-fn the_conference_has_its_log(rt: HostRuntime) -> Result<(), AllocError> {
-    let alloc = rt.alloc();
-    let mut conference = with_cases(
-        alloc,
-        &[P1, P2],
-        &[(P1, "Chase & Match"), (P2, "Logs, Events")],
-    )?;
-    conference.add(alloc, submissions(alloc)?)?;
+fn conference_reviews(alloc: Global) -> Result<Noted, AllocError> {
     let mut review = annotation(
         alloc,
         "review",
@@ -231,7 +223,19 @@ fn the_conference_has_its_log(rt: HostRuntime) -> Result<(), AllocError> {
     let people = [(R1, "Bo"), (R2, "Cy"), (R3, "Ada")];
     review.asked(alloc, "org:resource", Rule::Single, TEXT, &people)?;
     review.fixed(alloc, "lifecycle:transition", Rule::Single, "complete")?;
-    conference.add(alloc, review)?;
+    Ok(review)
+}
+
+#[test]
+fn the_conference_has_its_log(rt: HostRuntime) -> Result<(), AllocError> {
+    let alloc = rt.alloc();
+    let mut conference = with_cases(
+        alloc,
+        &[P1, P2],
+        &[(P1, "Chase & Match"), (P2, "Logs, Events")],
+    )?;
+    conference.add(alloc, submissions(alloc)?)?;
+    conference.add(alloc, conference_reviews(alloc)?)?;
     let log = "  <trace>
     <string key=\"object\" value=\"http://conf.org/paper/1\"/>
     <string key=\"concept:name\" value=\"Chase &amp; Match\"/>
@@ -273,12 +277,7 @@ left out: review <http://conf.org/review/r2>: none time:timestamp
     says(&rt, alloc, &conference, log, text)
 }
 
-// A case with several names and one without, an event left out for each reason, and keys by each
-// rule.
-#[test]
-fn keys_and_names_follow_their_rules(rt: HostRuntime) -> Result<(), AllocError> {
-    let alloc = rt.alloc();
-    let mut small = with_cases(alloc, &["c1", "c2"], &[("c1", "A"), ("c1", "B")])?;
+fn visits(alloc: Global) -> Result<Noted, AllocError> {
     let objects = ["o1", "o2", "o3", "o4"];
     let cases = [("o1", "c1"), ("o2", "c1"), ("o3", "c2"), ("o4", "c3")];
     let mut visit = annotation(alloc, "visit", &objects, &cases)?;
@@ -287,7 +286,16 @@ fn keys_and_names_follow_their_rules(rt: HostRuntime) -> Result<(), AllocError> 
     let values = [("o1", "x"), ("o1", "y"), ("o2", "x"), ("o2", "y")];
     visit.asked(alloc, "note", Rule::Many, TEXT, &values)?;
     visit.asked(alloc, "of", Rule::Single, OBJECT, &values)?;
-    small.add(alloc, visit)?;
+    Ok(visit)
+}
+
+// A case with several names and one without, an event left out for each reason, and keys by each
+// rule.
+#[test]
+fn keys_and_names_follow_their_rules(rt: HostRuntime) -> Result<(), AllocError> {
+    let alloc = rt.alloc();
+    let mut small = with_cases(alloc, &["c1", "c2"], &[("c1", "A"), ("c1", "B")])?;
+    small.add(alloc, visits(alloc)?)?;
     let log = "  <trace>
     <string key=\"object\" value=\"c1\"/>
     <string key=\"concept:name\" value=\"c1\"/>
