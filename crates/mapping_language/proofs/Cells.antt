@@ -1,5 +1,5 @@
 -- The cells that a mapping line names, item by item.
-use Rattle.std.proofs.Common.{◌≡◌, refl, sym, ap, ◌∙◌, ◌||◌, Bool, true, false, ℕ, List, [], ◌∷◌, ◌++◌, map}
+use Rattle.std.proofs.Common.{◌≡◌, refl, ap, ◌∙◌, ◌||◌, Bool, ℕ, List, [], ◌∷◌, map}
 use Rattle.std.specs.List.{list_any, flat_map}
 use Rattle.std.proofs.lemmas.List.Folds.{list_any-append}
 use Rattle.std.proofs.lemmas.Grind.{flat_map-append}
@@ -25,9 +25,9 @@ pub unknown_cells : (s : Sources) (m : MapLine) → list_any (unknown_cell s (ma
 unknown_cells s m =
     let u : _ → Bool = unknown_cell s (map_shown m) in
     let cs : list_any u (flat_map cells_of_condition (map condition_shown m.conditions.items)) ≡ list_any (λ c. list_any u (cells_of_condition (condition_shown c))) m.conditions.items
-        = any_of_flat u condition_shown cells_of_condition m.conditions.items in
+    = any_of_flat u condition_shown cells_of_condition m.conditions.items in
     let ts : list_any u (flat_map cells_of_term (flat_map terms_of (map target_shown m.targets.items))) ≡ list_any (λ t. list_any u (flat_map cells_of_term (terms_of (target_shown t)))) m.targets.items
-        = any_of_deep u target_shown terms_of cells_of_term m.targets.items in
+    = any_of_deep u target_shown terms_of cells_of_term m.targets.items in
     rw (list_any-append u, cs, ts) refl
 
 pub misfits : (p : Placed → Bool) (places : Target → List Placed) (targets : List HeldTarget) → list_any p (flat_map places (map target_shown targets)) ≡ list_any (λ t. list_any p (places (target_shown t))) targets

@@ -1,5 +1,5 @@
 -- That the mapping of a line fits its tables.
-use Rattle.std.proofs.Common.{◌≡◌, refl, ◌+◌, ◌<◌, ◌≤◌, ◌^◌, ℕ, zero, suc, List, [], ◌∷◌, ◌++◌, Option, Some, None, Result, Ok, Err, OnOk, All, map, length, get_or, arith, length-append}
+use Rattle.std.proofs.Common.{◌≡◌, refl, ◌+◌, ◌<◌, ◌≤◌, ℕ, zero, suc, List, [], ◌∷◌, ◌++◌, Option, Some, None, Result, Ok, Err, OnOk, All, length, get_or, arith, length-append}
 use Rattle.std.specs.List.{flat_map}
 use Rattle.std.specs.Str.{bytes_eq}
 use Rattle.std.proofs.lemmas.List.{length-map}
@@ -12,7 +12,7 @@ use Rattle.iri_templates.specs.Templates.{hole_texts, template_of}
 use Rattle.mapping_facts.specs.declared.mapping.Mapping.{Mapping}
 use Rattle.mapping_facts.specs.Fits.{PlaceFits, ConditionFits, TermFits, TargetFits, MappingFits, AreFit}
 use Rattle.mapping_language.specs.declared.sources.Sources.{Sources}
-use Rattle.mapping_language.specs.Written.{Cell, OfCell, OfText, Condition, Same, Differs, Null, NotNull, Term, Iri, Column, Constant, Target, One, Two, Source, MapLine}
+use Rattle.mapping_language.specs.Written.{Cell, OfCell, OfText, Condition, Same, Differs, Null, NotNull, Term, Iri, Column, Constant, Target, One, Two, MapLine}
 use Rattle.vocabulary.specs.declared.ids.Side.TheVariants.{Object}
 use Rattle.mapping_language.specs.Mappings.{class_places, link_places, class_targets, link_targets, or_zero, place_of, place_at, cell_of_hole, condition_of, template_or, row_term_of, tables_of, targets_of, mapping_of}
 use Rattle.mapping_language.specs.Built.{IsWithinLimits}
@@ -42,9 +42,10 @@ module _ (s : Sources) (m : MapLine) (some : 0 < length m.sources) where
 
   term_fits : (t : Term) (side : Side) → TermFits (length m.sources) (row_term_of s m (record { term = t; side = side }))
   term_fits (Iri text) side =
-      let holes : List (List ℕ) = hole_texts (template_or (template_of text)) in
-      (length-map holes (λ hole. place_at s m (cell_of_hole hole)),
-       All-map (PlaceFits (length m.sources)) (λ hole. place_at s m (cell_of_hole hole)) holes (λ k d lt. place_fits (cell_of_hole (get_or holes k d))))
+      let holes : List (List ℕ) = hole_texts (template_or (template_of text)) in (
+        length-map holes (λ hole. place_at s m (cell_of_hole hole)),
+        All-map (PlaceFits (length m.sources)) (λ hole. place_at s m (cell_of_hole hole)) holes (λ k d lt. place_fits (cell_of_hole (get_or holes k d))),
+      )
   term_fits (Column cell) side = place_fits cell
   term_fits (Constant text) side = tt
 

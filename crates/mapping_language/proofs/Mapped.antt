@@ -7,7 +7,6 @@ use Rattle.vocabulary.specs.declared.ids.TableId.{TableId}
 use Rattle.vocabulary.specs.declared.ids.Side.{Side}
 use Rattle.mapping_facts.specs.declared.query.Condition.{Condition as RowCondition}
 use Rattle.mapping_facts.specs.declared.mapping.Target.{Target as RowTarget}
-use Rattle.mapping_facts.specs.declared.mapping.Mapping.{Mapping}
 use Rattle.mapping_language.specs.declared.sources.Sources.{Sources}
 use Rattle.mapping_language.specs.declared.written.Condition.{Condition}
 use Rattle.mapping_language.specs.declared.written.Source.{Source}

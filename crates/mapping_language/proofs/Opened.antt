@@ -1,15 +1,8 @@
 -- The holes of a text, one behind the other.
-use Rattle.std.proofs.Common.{◌≡◌, refl, sym, ap, ◌∙◌, ℕ, zero, suc, ◌+◌, ◌-◌, ◌<◌, ◌≤◌, ◌==◌, Bool, true, false, not, cond, List, [], ◌∷◌, ◌++◌, Option, Some, None, if◌then◌else◌, length, take, drop, get_or, position, nat_lt, arith, take_all, drop-cons, add-one, length-drop, length-take-le}
-use Rattle.std.specs.List.{position_or_len, prefix_len, after_first, before_first, take_while}
-use Rattle.std.proofs.lemmas.List.{drop_all}
-use Rattle.std.proofs.lemmas.List.Sums.{prefix_len-le-length}
-use Rattle.std.proofs.lemmas.List.Folds.{length-prefix_len}
-use Rattle.std.proofs.lemmas.List.Quantifiers.{position-Some}
-use Rattle.std.proofs.lemmas.Bool.Decides.{nat_tests}
-use Rattle.iri_templates.specs.Characters.{is_brace}
-use Rattle.iri_templates.specs.Templates.{hole_at, closed_at}
-use Rattle.mapping_language.specs.Written.{Cell}
-use Rattle.mapping_language.specs.Mappings.{braced, holes, cell_of_hole}
+use Rattle.std.proofs.Common.{◌≡◌, refl, ℕ, suc, ◌+◌, ◌<◌, ◌==◌, Bool, true, false, not, cond, List, [], ◌∷◌, ◌++◌, if◌then◌else◌, length, drop, arith, length-drop}
+use Rattle.std.specs.List.{position_or_len, after_first}
+use Rattle.iri_templates.specs.Templates.{hole_at}
+use Rattle.mapping_language.specs.Mappings.{braced, holes}
 
 abbrev opens : ℕ → Bool
 opens b = b == 123
@@ -23,7 +16,7 @@ module _ (b : ℕ) (rest : List ℕ) where
   first_by : (position_or_len opens rest < length rest → holes rest ≡ braced (hole_at (after_first opens rest)) ++ holes (after_first opens rest))
       → (t : Bool) → cond (not t) (1 + position_or_len opens rest) 0 < length (b ∷ rest)
       → (if t then braced (hole_at rest) else []) ++ holes rest
-          ≡ braced (hole_at (drop (cond (not t) (1 + position_or_len opens rest) 0 + 1) (b ∷ rest))) ++ holes (drop (cond (not t) (1 + position_or_len opens rest) 0 + 1) (b ∷ rest))
+      ≡ braced (hole_at (drop (cond (not t) (1 + position_or_len opens rest) 0 + 1) (b ∷ rest))) ++ holes (drop (cond (not t) (1 + position_or_len opens rest) 0 + 1) (b ∷ rest))
   first_by next true lt = refl
   first_by next false lt =
       let further : 1 + position_or_len opens rest + 1 ≡ suc (position_or_len opens rest + 1) = omega arith in

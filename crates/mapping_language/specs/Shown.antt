@@ -1,5 +1,5 @@
 -- Lines that the code holds, as the definitions see them.
-use Rattle.std.specs.Prelude.{List, map, option_map}
+use Rattle.std.specs.Prelude.{map, option_map}
 use Rattle.mapping_language.specs.declared.written.SourceLine.{SourceLine as HeldSourceLine}
 use Rattle.mapping_language.specs.declared.written.SourceLine.TheVariants as held_line
 use Rattle.mapping_language.specs.declared.written.Cell.{Cell as HeldCell}

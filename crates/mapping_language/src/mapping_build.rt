@@ -17,7 +17,9 @@ use crate::source_change::id_number;
 use crate::tables::{column_number, table_number};
 use crate::written::{Cell, Condition, MapLine, Other, Source, Target, Term};
 use iri_templates::Template;
-use mapping_facts::{Condition as RowCondition, Mapping, Place, RowTerm, SourceQuery, Target as RowTarget};
+use mapping_facts::{
+    Condition as RowCondition, Mapping, Place, RowTerm, SourceQuery, Target as RowTarget,
+};
 use source_tables::{TableDecl, read_value};
 use std::alloc::{AllocError, Global};
 use uml_model::Model;

@@ -13,7 +13,10 @@ use std::alloc::{AllocError, Global};
 fn is_taken(sources: &Sources, name: &str) -> bool
     ensures { result ≡ list_any (λ other. bytes_eq other.name name.now) sources.now.mappings }
 {
-    sources.mappings().iter().any(|other| other.name.text() == name)
+    sources
+        .mappings()
+        .iter()
+        .any(|other| other.name.text() == name)
 }
 
 #[tactic(auto, using(crate::proofs::Lists::next_mapped, crate::proofs::Lists::mapped_push))]

@@ -53,11 +53,7 @@ fn target_has(alloc: Global, flaw: Flaw, target: &Target<'_>) -> Result<bool, Al
     }
 }
 
-fn targets_have(
-    alloc: Global,
-    flaw: Flaw,
-    targets: &[Target<'_>],
-) -> Result<bool, AllocError>
+fn targets_have(alloc: Global, flaw: Flaw, targets: &[Target<'_>]) -> Result<bool, AllocError>
     ensures { IfOk result (λ r. r ≡ list_any (λ t. list_any (λ text. has_flaw flaw (template_of text)) (flat_map template_texts (terms_of (target_shown t)))) targets.now) }
 {
     for target in targets {
@@ -70,11 +66,7 @@ fn targets_have(
 
 /// Whether a template of the line has the flaw.
 #[tactic(auto, using(crate::proofs::Cells::flaws))]
-pub(crate) fn has_flawed(
-    alloc: Global,
-    flaw: Flaw,
-    line: &MapLine<'_>,
-) -> Result<bool, AllocError>
+pub(crate) fn has_flawed(alloc: Global, flaw: Flaw, line: &MapLine<'_>) -> Result<bool, AllocError>
     ensures { IfOk result (λ r. r ≡ list_any (λ text. has_flaw flaw (template_of text)) (all_templates (map_shown line.now))) }
 {
     let flawed = targets_have(alloc, flaw, &line.targets)?;

@@ -6,13 +6,11 @@ ghost use Rattle.mapping_language.specs.Tables.{read_source_line};
 ghost use Rattle.mapping_facts.specs.Fits.{AreFit};
 ghost use Rattle.uml_model.specs.Rules.{class_named, link_named};
 
-use crate::Sources;
 use crate::mapping_change::add_mapping_line;
 use crate::mapping_grammar::map_line;
-use crate::mapping_rules;
 use crate::source_change::add_source_line;
 use crate::source_grammar::source_line;
-use crate::source_rules;
+use crate::{Sources, mapping_rules, source_rules};
 use line_lexer::{Line, LineFault, tokens_of};
 use std::alloc::Global;
 use uml_model::Model;

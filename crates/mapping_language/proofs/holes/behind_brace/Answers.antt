@@ -1,4 +1,4 @@
-use Rattle.std.proofs.Common.{◌≡◌, arith}
+use Rattle.std.proofs.Common.{arith}
 use Rattle.mapping_language.proofs.Opened.{holes_none, holes_first}
 use Rattle.mapping_language.proofs.holes.behind_brace.Goals as goal
 

@@ -1,4 +1,4 @@
-use Rattle.std.proofs.Common.{◌≡◌, not, drop}
+use Rattle.std.proofs.Common.{◌≡◌, drop}
 use Rattle.std.specs.List.{list_any}
 use Rattle.mapping_language.specs.Mappings.{is_illtyped}
 use Rattle.mapping_language.specs.Shown.{condition_shown, map_shown}
