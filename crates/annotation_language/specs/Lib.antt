@@ -1,4 +1,5 @@
 pub mod Complete
 pub mod Written
+pub mod Shown
 pub mod Grammar
 pub mod Lines
