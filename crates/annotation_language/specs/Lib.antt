@@ -3,3 +3,4 @@ pub mod Written
 pub mod Shown
 pub mod Grammar
 pub mod Lines
+pub mod Resolved

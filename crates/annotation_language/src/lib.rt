@@ -3,6 +3,9 @@
 
 mod grammar;
 mod notes;
+mod places;
+mod resolved;
+mod variables;
 mod written;
 
 pub use notes::{Annotations, EventNote, KeyNote, KeySource, NamedQuery, Rule};

@@ -1,4 +1,8 @@
 //! Annotation lines as they are written.
+ghost use Rattle.std.specs.Prelude.{◌≡◌};
+ghost use Rattle.annotation_language.specs.Lines.{atom_name};
+ghost use Rattle.annotation_language.specs.Shown.{shown_atom};
+
 use crate::notes::Rule;
 use vocabulary::ValueKind;
 
@@ -21,6 +25,17 @@ pub(crate) enum WrittenAtom<'a> {
     One(&'a str, Argument<'a>),
     /// `P(ARG, ARG)`.
     Two(&'a str, Argument<'a>, Argument<'a>),
+}
+
+impl<'a> WrittenAtom<'a> {
+    pub(crate) fn name(&self) -> &'a str
+        ensures { result.now ≡ atom_name (shown_atom self.now) }
+    {
+        match self {
+            WrittenAtom::One(p, _) => p,
+            WrittenAtom::Two(p, _, _) => p,
+        }
+    }
 }
 
 /// Head variables, and the atoms behind `where`.
