@@ -1,6 +1,6 @@
 -- The table that the bytes of a file are under a declaration, or their first fault.
 use Rattle.std.specs.Prelude.{ℕ, ℤ, zero, suc, ◌+◌, ◌==◌, nat_lt, nat_eq, not, Bool, true, false, ◌&&◌, if◌then◌else◌, List, [], ◌∷◌, ◌++◌, length, take, drop, get_or, map, count_by, position, Option, Some, None, Result, Ok, Err}
-use Rattle.std.specs.List.{list_all, list_any, position_or_len}
+use Rattle.std.specs.List.{All, list_all, list_any, position_or_len}
 use Rattle.std.specs.Str.{bytes_eq, is_utf8}
 use Rattle.csv.specs.Reading.{records, default_config, strip_bom}
 use Rattle.vocabulary.specs.declared.ids.ValueKind.{ValueKind}
@@ -10,7 +10,7 @@ use Rattle.source_tables.specs.declared.decl.ColumnDecl.{ColumnDecl}
 use Rattle.source_tables.specs.declared.decl.TableDecl.{TableDecl}
 use Rattle.source_tables.specs.declared.fault.TableFault.{TableFault}
 use Rattle.source_tables.specs.declared.fault.TableFault.TheVariants.{Header, NotUtf8, Width, BadCell, BadChar, NullKey, DoubleKey, TooManyRows}
-use Rattle.source_tables.specs.Cells.{Cell, Row, canonical, is_null}
+use Rattle.source_tables.specs.Cells.{Cell, Row, HasText, canonical, is_null}
 
 -- a table: its declaration, and its rows, each with one cell for each declared column
 pub record Loaded : Type 0 where
@@ -21,6 +21,10 @@ pub record Loaded : Type 0 where
 abbrev pub cut_rows : ℕ → ℕ → List Cell → List Row
 cut_rows zero width cells = []
 cut_rows (suc n) width cells = take width cells ∷ cut_rows n width (drop width cells)
+
+-- each cell of each row is null or a text of XML 1.0
+abbrev pub HasTexts : Loaded → Type 0
+HasTexts table = All (All HasText) table.rows
 
 abbrev pub OrFault : Type 0 → Type 0
 OrFault A = Result A TableFault

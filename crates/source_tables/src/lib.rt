@@ -4,7 +4,9 @@
 mod decl;
 mod fault;
 mod table;
+mod value;
 
 pub use decl::{ColumnDecl, TableDecl};
 pub use fault::TableFault;
-pub use table::Table;
+pub use table::{Table, have_texts};
+pub use value::read_value;
