@@ -43,3 +43,7 @@ pub first_is : (v : List ℕ) (places : List Placed) (i : ℕ) (d : Placed) → 
 first_is v places i d lt e same =
     first_here v (shown_argument (get_or places i d).argument) (get_or places i d).side (map shown_placed (drop (i + 1) places)) e
     ∙ ap (λ rest. first_of (sides_at v (map shown_placed rest))) (sym (drop_more places i d lt)) ∙ same
+
+pub first_side_is : (side : Side) (sides : List Side) → Some side ≡ first_of sides → side ≡ lines.first_side sides
+first_side_is side [] e = grind arith
+first_side_is side (other ∷ sides) e = grind (arith, e)

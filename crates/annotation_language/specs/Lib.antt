@@ -4,3 +4,5 @@ pub mod Shown
 pub mod Grammar
 pub mod Lines
 pub mod Resolved
+pub mod Changing
+pub mod Reading

@@ -1,5 +1,5 @@
 -- A query over a model, with its variables in the order of their numbers and the sorts of its places.
-use Rattle.std.specs.Prelude.{◌≡◌, ℕ, Bool, false, List, [], ◌∷◌, Option, Some, None, map}
+use Rattle.std.specs.Prelude.{◌≡◌, ◌<◌, ◌^◌, ℕ, length, Bool, false, List, [], ◌∷◌, Option, Some, None, map}
 use Rattle.std.specs.Borrow.{Bor}
 use Rattle.std.specs.List.{flat_map}
 use Rattle.std.specs.Str.{bytes_eq}
@@ -22,10 +22,19 @@ shown_placed placed = record { argument = shown_argument placed.argument; side =
 abbrev pub places_of : Known → written.Atom → List lines.Placed
 places_of model = lines.places (class_named model) (link_named model)
 
+-- the name of the atom is that of no class and no link of the model
+unfoldable pub is_unknown : Known → written.Atom → Bool
+is_unknown model atom = lines.unknown_name (class_named model) (link_named model) (lines.atom_name atom)
+
 -- the variables and the places are those of the query
 pub record IsResolved (model : Known) (r : Resolved) : Type 0 where
   pub variables : texts r.variables.items ≡ lines.variables_of (shown_query r.query.now)
   pub places : map shown_placed r.places.items ≡ lines.all_places (class_named model) (link_named model) (shown_query r.query.now)
+
+-- the variables are those of the query, and 32 bits hold their numbers
+pub record HasVariables (r : Resolved) : Type 0 where
+  pub variables : texts r.variables.items ≡ lines.variables_of (shown_query r.query.now)
+  pub few : length r.variables.items < 2 ^ 32
 
 -- this variable stands at the place
 abbrev pub is_of : List ℕ → lines.Placed → Bool

@@ -1,10 +1,9 @@
 //! The places of the atoms of a query, and the sorts that they ask.
 ghost use Rattle.std.specs.Prelude.{◌≡◌, ◌==◌, [], ◌∷◌, ◌++◌, length, map, not, IfOk, OnOk};
 ghost use Rattle.std.specs.List.{flat_map, list_any};
-ghost use Rattle.uml_model.specs.Rules.{class_named, link_named};
-ghost use Rattle.annotation_language.specs.Lines.{unknown_name, atom_name, is_value_side, same_kind, same_side, differ};
+ghost use Rattle.annotation_language.specs.Lines.{is_value_side, same_kind, same_side, differ};
 ghost use Rattle.annotation_language.specs.Shown.{shown_argument, shown_atom};
-ghost use Rattle.annotation_language.specs.Resolved.{shown_placed, places_of, is_of, sides_at, first_of};
+ghost use Rattle.annotation_language.specs.Resolved.{shown_placed, places_of, is_unknown, is_of, sides_at, first_of};
 
 use crate::written::{Argument, WrittenAtom};
 use std::alloc::{AllocError, Global};
@@ -19,8 +18,9 @@ pub(crate) struct Placed<'a> {
 }
 
 // The name of the atom is that of no class and no link.
+#[tactic(auto, unfolding(crate::specs::Resolved::is_unknown))]
 pub(crate) fn is_unknown(model: &Model, atom: &WrittenAtom<'_>) -> bool
-    ensures { result ≡ unknown_name (class_named model.now) (link_named model.now) (atom_name (shown_atom atom.now)) }
+    ensures { result ≡ is_unknown model.now (shown_atom atom.now) }
 {
     let name = atom.name();
     !(model.class_named(name).is_some() || model.link_named(name).is_some())
