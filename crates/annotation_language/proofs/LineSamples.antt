@@ -21,7 +21,7 @@ use Rattle.annotation_language.specs.declared.notes.Rule.TheVariants.{Mandatory,
 use Rattle.annotation_language.specs.declared.notes.KeySource.TheVariants.{Fixed as FixedKey, Asked}
 use Rattle.annotation_language.specs.declared.notes.KeyNote.{KeyNote}
 use Rattle.annotation_language.specs.declared.notes.EventNote.{EventNote}
-use Rattle.annotation_language.specs.Grammar.{at_most, atom, of_one, of_two, of_any, key_line, annotation_line}
+use Rattle.annotation_language.specs.Grammar.{at_most, atom, of_one, pair, of_two, of_any, key_front, key_line, annotation_line}
 use Rattle.line_lexer.specs.Judging.{first_broken}
 use Rattle.annotation_language.specs.Lines.{Noted, nothing, is_bad_key, read_annotation_line, broken, grown}
 
@@ -69,7 +69,7 @@ a_case_name : says before (codes "casename (c, n) where title(c, n)") ≡ Ok (re
     case_name = Some (record { head = var 0 ∷ var 1 ∷ []; atoms = Linked (record { 0 = 1 }) (var 0) (var 1) ∷ [] });
   };
 })
-unfolding chars tokens_behind token_front at_most atom of_two annotation_line template_of broken grown
+unfolding chars tokens_behind token_front at_most atom pair of_two annotation_line template_of broken grown
 a_case_name = refl
 
 an_event : says before (codes "event f x where Paper(x)") ≡ Ok (record {
@@ -84,7 +84,7 @@ cases_of_it : says before (codes "cases e (x, x) where Paper(x)") ≡ Ok (record
     events = record (event None (record { key = codes "k"; rule = Many; source = FixedKey Text (codes "x") } ∷ [])) { cases = Some (record papers { head = var 0 ∷ var 0 ∷ [] }) } ∷ [];
   };
 })
-unfolding chars tokens_behind token_front at_most atom of_two annotation_line template_of broken grown
+unfolding chars tokens_behind token_front at_most atom pair of_two annotation_line template_of broken grown
 cases_of_it = refl
 
 abbrev with_key : KeyNote → Result Noted LineFault
@@ -98,7 +98,7 @@ with_key key = Ok (record before {
 keys_of_it : map (says before) (codes "set e \"time:timestamp\" mandatory is time \"2024-01-02\"" ∷ codes "set e \"made\" many (x, t) where made(x, t)" ∷ [])
     ≡ with_key (record { key = codes "time:timestamp"; rule = Mandatory; source = FixedKey Time (codes "2024-01-02T00:00:00.000+00:00") })
     ∷ with_key (record { key = codes "made"; rule = Many; source = Asked (record { head = var 0 ∷ var 1 ∷ []; atoms = Linked (record { 0 = 2 }) (var 0) (var 1) ∷ [] }) (Value Time) }) ∷ []
-unfolding chars tokens_behind token_front at_most atom of_two key_line annotation_line template_of moment_of broken grown
+unfolding chars tokens_behind token_front at_most atom pair of_two key_front key_line annotation_line template_of moment_of broken grown
 keys_of_it = refl
 
 -- the head before the atoms; `_` is a variable of its own, and constants are terms
@@ -132,28 +132,28 @@ faults lines = map (λ line. fault_of (says before line)) lines
 -- Syntax, then Unknown
 forms : faults (codes "case (c) where Paper(c)" ∷ codes "casename (c) where Paper(c)" ∷ codes "event e _ where Paper(_)" ∷ codes "set e \"k\" some (x, y) where made(x, y)" ∷ codes "query r (a) where Paper(a, a, a)" ∷ codes "query r (a) where Paper(a) Paper(a)" ∷ codes "class A" ∷ codes "# nothing" ∷ [])
     ≡ Some Syntax ∷ Some Syntax ∷ Some Syntax ∷ Some Syntax ∷ Some Syntax ∷ Some Syntax ∷ Some Syntax ∷ None ∷ []
-unfolding chars tokens_behind token_front at_most atom of_one of_two of_any key_line annotation_line template_of broken grown
+unfolding chars tokens_behind token_front at_most atom of_one pair of_two of_any key_front key_line annotation_line template_of broken grown
 forms = refl
 
 unknown_names : faults (codes "cases q (x, x) where Paper(x)" ∷ codes "set f \"k\" many is text \"\"" ∷ codes "query q (a) where Zed(a)" ∷ [])
     ≡ Some Unknown ∷ Some Unknown ∷ Some Unknown ∷ []
-unfolding chars tokens_behind token_front at_most atom of_two of_any key_line annotation_line template_of broken grown
+unfolding chars tokens_behind token_front at_most atom pair of_two of_any key_front key_line annotation_line template_of broken grown
 unknown_names = refl
 
 no_case_yet : fault_of (says nothing (codes "casename (c, n) where title(c, n)")) ≡ Some Unknown
-unfolding chars tokens_behind token_front at_most atom of_two annotation_line template_of broken grown
+unfolding chars tokens_behind token_front at_most atom pair of_two annotation_line template_of broken grown
 no_case_yet = refl
 
 -- Double, then TypeMismatch and BadTemplate
 twice : faults (codes "case c where Paper(\"x\")" ∷ codes "event q x where Paper(x)" ∷ codes "event case x where Paper(x)" ∷ codes "query e (x) where Paper(x)" ∷ codes "set e \"k\" many is time \"x\"" ∷ [])
     ≡ Some Double ∷ Some Double ∷ Some Double ∷ Some Double ∷ Some Double ∷ []
-unfolding chars tokens_behind token_front at_most atom of_one of_any key_line annotation_line template_of broken grown
+unfolding chars tokens_behind token_front at_most atom of_one of_any key_front key_line annotation_line template_of broken grown
 twice = refl
 
 mismatches : faults (codes "query r () where Paper(_, _)" ∷ codes "query r () where writes(_)" ∷ codes "query r () where Paper(\"x\"), Paper(iri \"e:{x}\")" ∷ codes "query r () where made(_, \"x\")" ∷ codes "query r () where title(_, iri \"e:p\")" ∷ codes "set e \"\" many is time \"x\"" ∷
     codes "query r (a) where title(a, b), writes(b, iri \"e:{x}\")" ∷ codes "query r () where Paper(iri \"\")" ∷ [])
     ≡ Some TypeMismatch ∷ Some TypeMismatch ∷ Some TypeMismatch ∷ Some TypeMismatch ∷ Some TypeMismatch ∷ Some TypeMismatch ∷ Some BadTemplate ∷ Some BadTemplate ∷ []
-unfolding chars tokens_behind token_front at_most atom of_any key_line annotation_line template_of moment_of broken grown
+unfolding chars tokens_behind token_front at_most atom of_any key_front key_line annotation_line template_of moment_of broken grown
 mismatches = refl
 
 -- MixedSort, then HeadUnbound and BadKey
@@ -161,7 +161,7 @@ sorts : faults (codes "query r (z) where title(a, b), writes(b, a)" ∷ codes "e
     codes "query r (z) where Paper(a)" ∷ codes "set e \"\" many (x, z) where Paper(x)" ∷
     codes "set e \"\" many (x, x) where Paper(x)" ∷ codes "casename (x, t) where made(x, t)" ∷ codes "set e \"org:resource\" many (x, t) where made(x, t)" ∷ [])
     ≡ Some MixedSort ∷ Some MixedSort ∷ Some MixedSort ∷ Some MixedSort ∷ Some HeadUnbound ∷ Some HeadUnbound ∷ Some BadKey ∷ Some BadKey ∷ Some BadKey ∷ []
-unfolding chars tokens_behind token_front at_most atom of_one of_two of_any key_line annotation_line template_of broken grown
+unfolding chars tokens_behind token_front at_most atom of_one pair of_two of_any key_front key_line annotation_line template_of broken grown
 sorts = refl
 
 -- the keys that logs cannot have

@@ -1,5 +1,5 @@
 -- The grammar of annotation lines, over the tokens of a line.
-use Rattle.std.specs.Prelude.{ℕ, zero, suc, List, [], ◌∷◌, Option, Some, None, if◌then◌else◌, length, codes}
+use Rattle.std.specs.Prelude.{ℕ, zero, suc, List, [], ◌∷◌, Option, Some, None, if◌then◌else◌, length, option_map, codes}
 use Rattle.std.specs.Str.{bytes_eq}
 use Rattle.line_lexer.specs.Tokens.{Seen}
 use Rattle.line_lexer.specs.Grammar.{◌>>=◌, either, expect, any_word, any_quoted, name, ended}
@@ -70,30 +70,46 @@ of_one tokens = do
   v ← name tokens
   asked (v.0 ∷ []) v.1
 
--- `(v, w) where ATOMS`
-unfoldable pub of_two : List Seen → Option Asked
-of_two tokens = do
+-- `(v, w)`
+unfoldable pub pair : List Seen → Option (List ℕ × List ℕ × List Seen)
+pair tokens = do
   rest ← expect (codes "(") tokens
   v ← name rest
   rest ← expect (codes ",") v.1
   w ← name rest
   rest ← expect (codes ")") w.1
-  asked (v.0 ∷ w.0 ∷ []) rest
+  Some (v.0, w.0, rest)
+
+-- `(v, w) where ATOMS`
+unfoldable pub of_two : List Seen → Option Asked
+of_two tokens = do
+  p ← pair tokens
+  asked (p.0 ∷ p.1 ∷ []) p.2
+
+-- variables and a closing parenthesis, then `where ATOMS`
+abbrev pub of_some : List Seen → Option Asked
+of_some tokens = do
+  head ← listed name tokens
+  rest ← expect (codes ")") head.1
+  asked head.0 rest
 
 -- variables in parentheses, maybe none, then `where ATOMS`
 unfoldable pub of_any : List Seen → Option Asked
 of_any tokens = do
   rest ← expect (codes "(") tokens
-  either (expect (codes ")") rest) (λ rest. asked [] rest) (do
-    head ← listed name rest
-    rest ← expect (codes ")") head.1
-    asked head.0 rest)
+  either (expect (codes ")") rest) (λ rest. asked [] rest) (of_some rest)
+
+-- behind `is`: `KIND "TEXT"` and nothing more
+abbrev pub fixed : List Seen → Option Source
+fixed tokens = do
+  word ← any_word tokens
+  k ← kind_of word.0
+  text ← any_quoted word.1
+  if ended text.1 then Some (Is k text.0) else None
 
 -- behind a rule: `is KIND "TEXT"`, or a query of two variables
 abbrev pub source : List Seen → Option Source
-source tokens = either (expect (codes "is") tokens)
-    (λ rest. any_word rest >>= (λ word. kind_of word.0 >>= (λ k. any_quoted word.1 >>= (λ text. if ended text.1 then Some (Is k text.0) else None))))
-    (of_two tokens >>= (λ q. Some (Answers q)))
+source tokens = either (expect (codes "is") tokens) fixed (option_map Answers (of_two tokens))
 
 -- a name, and the query behind it
 abbrev pub named : (List ℕ → Asked → Line) → (List Seen → Option Asked) → List Seen → Option Line
@@ -102,21 +118,27 @@ named line query tokens = do
   q ← query n.1
   Some (line n.0 q)
 
--- behind `set`: the event, the key, the rule and the source
-unfoldable pub key_line : List Seen → Option Line
-key_line tokens = do
+-- the event, the key and the rule
+unfoldable pub key_front : List Seen → Option (List ℕ × List ℕ × Rule × List Seen)
+key_front tokens = do
   event ← name tokens
   key ← any_quoted event.1
   word ← any_word key.1
   rule ← rule_of word.0
-  from ← source word.1
-  Some (Key event.0 key.0 rule from)
+  Some (event.0, key.0, rule, word.1)
+
+-- behind `set`: the event, the key, the rule and the source
+unfoldable pub key_line : List Seen → Option Line
+key_line tokens = do
+  front ← key_front tokens
+  from ← source front.3
+  Some (Key front.0 front.1 front.2 from)
 
 -- the annotation line that the tokens are, by their first word; None where they are none
 unfoldable pub annotation_line : List Seen → Option Line
 annotation_line tokens =
-    either (expect (codes "case") tokens) (λ rest. of_one rest >>= (λ q. Some (Case q)))
-    (either (expect (codes "casename") tokens) (λ rest. of_two rest >>= (λ q. Some (CaseName q)))
+    either (expect (codes "case") tokens) (λ rest. option_map Case (of_one rest))
+    (either (expect (codes "casename") tokens) (λ rest. option_map CaseName (of_two rest))
     (either (expect (codes "event") tokens) (named Event of_one)
     (either (expect (codes "cases") tokens) (named Cases of_two)
     (either (expect (codes "set") tokens) key_line

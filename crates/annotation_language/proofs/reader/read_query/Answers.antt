@@ -1,0 +1,13 @@
+-- No rule is broken, and what is known is grown.
+use Rattle.std.proofs.Common.{refl, sym}
+use Rattle.annotation_language.specs.Written.{Query}
+use Rattle.annotation_language.specs.Lines.{broken, grown}
+use Rattle.annotation_language.specs.Shown.{shown_query}
+use Rattle.annotation_language.proofs.Growing.{read_is}
+use Rattle.annotation_language.proofs.reader.read_query.Goals as goal
+
+pub returns-clause-read : goal.returns-clause-read
+unfolding broken grown
+returns-clause-read c =
+    let sound = rw (c.in_ok-resolved.ensures.query, c.is_taken.ensures, c.notes-2.ensures, c.items.ensures, c.notes.ensures) at c.in_ok-found.ensures.sound in
+    read_is c.args.model.now c.args.number c.args.notes.now (Query c.args.name.now (shown_query c.args.query.now)) _ sound (rw (c.in_ok-add_query.ensures, c.in_ok-new.ensures, c.in_ok-found.ensures.found, c.in_ok-variables.ensures, c.as_slice.ensures.value, c.in_ok-resolved.ensures.resolved.variables, c.in_ok-resolved.ensures.query) refl)
