@@ -1,1 +1,5 @@
+pub mod Images
+pub mod Kept
+pub mod Numbered
+pub mod Search
 pub mod Subsumption

@@ -1,2 +1,14 @@
-//! Subsumption of queries.
+//! Which queries of a list stand for others: containment of conjunctive queries by a homomorphism.
 #![tactic(auto)]
+
+mod bindings;
+mod kept;
+mod mapping;
+mod numbering;
+mod search;
+mod symbols;
+#[cfg(test)]
+mod tests;
+
+pub use kept::drop_subsumed;
+pub use mapping::maps_into;

@@ -1,0 +1,6 @@
+mod Dropping
+mod Matching
+mod Places
+mod SameSymbols
+mod Solving
+mod Telling
