@@ -1,12 +1,11 @@
 -- The cases of an object, and what lists of values tell.
-use Rattle.std.proofs.Common.{◌≡◌, ◌≢◌, refl, sym, ◌∙◌, ap, subst, ℕ, ◌==◌, Bool, true, false, cond, List, [], ◌∷◌, ◌++◌, Option, Some, None, filter, filter_map, length, ◌⊎◌, inl, inr, map, arith, ◌||◌}
-use Rattle.std.specs.declared.cmp.Ordering.TheVariants.{Less, Equal, Greater}
+use Rattle.std.proofs.Common.{◌≡◌, ◌≢◌, refl, sym, ◌∙◌, ap, subst, ℕ, ◌==◌, Bool, true, false, cond, List, [], ◌∷◌, Some, None, filter, length, inl, inr, map, arith, ◌||◌}
+use Rattle.std.specs.declared.cmp.Ordering.TheVariants.{Less, Equal}
 use Rattle.std.specs.List.{flat_map, list_any}
-use Rattle.std.specs.List.Sorted.{IsStrictlySortedBy}
 use Rattle.std.proofs.lemmas.Cmp.{tied_itself}
 use Rattle.std.proofs.lemmas.Map.Keys.{sorted_head}
 use borrow.Author.Tests.{eqb-true}
-use Rattle.vocabulary.specs.declared.term.Term.{Term, New', Named, Value, end_of-Term, more_of-Term}
+use Rattle.vocabulary.specs.declared.term.Term.{Term, New', Named, Value}
 use Rattle.vocabulary.specs.Lists.{In, here, there, IsListOf}
 use Rattle.vocabulary.proofs.Lists.{In-append_left, In-append_right, In-append_cases, In-filter_map, from_filter_map}
 use Rattle.queries.specs.Order.{term_cmp, tuple_cmp}

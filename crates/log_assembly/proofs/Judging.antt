@@ -1,32 +1,28 @@
 -- What the lists of an object's values say of it: met and dropped keys, times, attributes.
-use Rattle.std.proofs.Common.{◌≡◌, refl, sym, ◌∙◌, ap, subst, ℕ, ◌<◌, ◌==◌, Bool, true, false, not, cond, List, [], ◌∷◌, ◌++◌, Option, Some, None, codes, filter, filter_map, length, nat_lt, ◌⊎◌, inl, inr, map, arith}
-use Rattle.std.specs.List.{flat_map, find}
+use Rattle.std.proofs.Common.{◌≡◌, refl, sym, ◌∙◌, ap, subst, ℕ, ◌==◌, Bool, true, false, not, cond, List, [], ◌∷◌, Some, None, codes, filter, filter_map, length, inl, inr, map, arith}
 use Rattle.std.specs.List.Sorted.{IsStrictlySortedBy}
 use Rattle.std.specs.Str.{bytes_eq}
 use Rattle.std.proofs.lemmas.Slice.Eq.{bytes_eq-Decides}
 use borrow.Author.Tests.{eqb-true, ltb-true, ltb-false}
 use Rattle.vocabulary.specs.declared.ids.ValueKind.TheVariants.{Text, Int, Bool as BoolKind, Time}
-use Rattle.vocabulary.specs.declared.term.Term.{Term, New', Named, Value, end_of-Term, more_of-Term}
+use Rattle.vocabulary.specs.declared.term.Term.{Term, New', Named, Value}
 use Rattle.vocabulary.specs.Lists.{In, here, there, IsListOf, Pairwise}
 use Rattle.vocabulary.proofs.Lists.{In-append_left, In-append_right, In-append_cases, In-filter_map, from_filter_map}
-use Rattle.queries.specs.Order.{term_cmp, tuple_cmp}
+use Rattle.queries.specs.Order.{term_cmp}
 use Rattle.certain_answers.specs.declared.answers.Answers.{Answers}
 use Rattle.annotation_language.specs.declared.notes.Rule.{Rule}
 use Rattle.annotation_language.specs.declared.notes.Rule.TheVariants.{Mandatory, Single, Many}
 use Rattle.annotation_language.specs.declared.notes.KeySource.{KeySource}
 use Rattle.annotation_language.specs.declared.notes.KeySource.TheVariants.{Fixed, Asked as OfQuery}
 use Rattle.annotation_language.specs.declared.notes.KeyNote.{KeyNote}
-use Rattle.annotation_language.specs.declared.notes.EventNote.{EventNote}
-use Rattle.xes_writer.specs.declared.log.Entry.{Entry}
 use Rattle.log_assembly.specs.declared.attributes.Attribute.{Attribute}
-use Rattle.log_assembly.specs.declared.verdict.Why.{Why}
-use Rattle.log_assembly.specs.declared.verdict.Why.TheVariants.{NoCase, NoValue, SeveralValues}
+use Rattle.log_assembly.specs.declared.verdict.Why.TheVariants.{NoValue, SeveralValues}
 use Rattle.log_assembly.specs.Answered.{query_of, AreAnswersOf}
-use Rattle.log_assembly.specs.Asked.{Certain, IsOne, HasNone, HasSeveral, IsValue, IsValueFrom}
+use Rattle.log_assembly.specs.Asked.{Certain, IsOne, HasSeveral, IsValue, IsValueFrom}
 use Rattle.log_assembly.specs.Found.{attribute_of, attributes_of, values_from}
 use Rattle.log_assembly.specs.Judged.{dropped, dropped_by, entries_at, entries_by, first_unmet, is_dropped, is_met, met_by, time_of, times_at, times_of, why_of}
-use Rattle.log_assembly.specs.TheLog.{IsMet, IsEntries, IsEntriesBy, IsTimeOf}
-use Rattle.log_assembly.specs.TheReport.{IsFirstUnmet, has_none, has_several, beyond, IsDropped, AreDropped}
+use Rattle.log_assembly.specs.TheLog.{IsMet, IsEntries, IsEntriesBy}
+use Rattle.log_assembly.specs.TheReport.{IsFirstUnmet, has_none, has_several, beyond, AreDropped}
 use Rattle.log_assembly.proofs.Homes.{none_of, one_of, several_of, not_one, not_several}
 use Rattle.log_assembly.proofs.Sections.{values_listed}
 

@@ -1,12 +1,10 @@
 -- The log and the report that are computed are those of the certain answers.
-use Rattle.std.proofs.Common.{◌≡◌, refl, sym, ◌∙◌, ap, subst, ℕ, ◌==◌, Bool, true, false, cond, List, [], ◌∷◌, ◌++◌, Option, Some, None, codes, filter, length, map, nat_lt, slice_get, inl, inr, arith}
-use Rattle.std.specs.List.{flat_map, zip}
-use Rattle.std.specs.List.Sorted.{IsStrictlySortedBy}
+use Rattle.std.proofs.Common.{◌≡◌, refl, sym, ◌∙◌, ap, subst, ℕ, ◌==◌, Bool, true, false, cond, List, [], ◌∷◌, Option, Some, None, codes, filter, length, map, nat_lt, inl, inr, arith}
+use Rattle.std.specs.List.{zip}
 use Rattle.std.proofs.lemmas.List.Folds.{flat_map-map}
 use Rattle.std.proofs.lemmas.List.Kept.{IsStrictlySortedBy-filter}
 use borrow.Author.Tests.{lt-ltb, ltb-true}
-use Rattle.vocabulary.specs.declared.ids.ValueKind.TheVariants.{Text}
-use Rattle.vocabulary.specs.declared.term.Term.{Term, Named, Value}
+use Rattle.vocabulary.specs.declared.term.Term.{Term, Named}
 use Rattle.vocabulary.specs.Lists.{In, here, there, IsListOf, Pairwise}
 use Rattle.vocabulary.specs.Texts.{text_cmp}
 use Rattle.vocabulary.proofs.Lists.{In-map}
@@ -23,9 +21,9 @@ use Rattle.log_assembly.specs.declared.verdict.Judgement.{Judgement}
 use Rattle.log_assembly.specs.Answered.{AreAsked, IsEventAsked}
 use Rattle.log_assembly.specs.Asked.{Certain, HasSeveral, IsAnswer, IsCase, IsCaseOf, IsName, IsObject}
 use Rattle.log_assembly.specs.Found.{homes_at, keys_at, names_of, values_at}
-use Rattle.log_assembly.specs.Judged.{dropped, entries_at, entries_of, first_unmet, has_names, judgement_of, judgements_of, verdict_by, verdict_of, why_of}
+use Rattle.log_assembly.specs.Judged.{entries_at, first_unmet, has_names, judgement_of, judgements_of, verdict_by, verdict_of, why_of}
 use Rattle.log_assembly.specs.Gathered.{at_case, log_of, moment_of, occurrence_cmp, row_by, row_of, title_of, trace_of}
-use Rattle.log_assembly.specs.TheLog.{IsEvent, IsKept, IsLog, IsMoment, IsTitle, IsTrace, Moment, entry_of}
+use Rattle.log_assembly.specs.TheLog.{IsEvent, IsLog, IsMoment, IsTitle, IsTrace, entry_of}
 use Rattle.log_assembly.specs.TheReport.{AreVerdicts, IsFirstUnmet, IsReport, IsVerdict, IsWhy, report_text}
 use Rattle.log_assembly.proofs.Homes.{from_filter, from_map, in_filter, none_of, not_several, one_of, several_of}
 use Rattle.log_assembly.proofs.Judging.{are_dropped, entries_are, none_unmet, some_unmet}

@@ -1,12 +1,12 @@
 -- The occurrences that are computed are the events of the cases.
-use Rattle.std.proofs.Common.{◌≡◌, refl, sym, ◌∙◌, ap, subst, ℕ, zero, suc, ◌+◌, Bool, true, false, not, cond, List, [], ◌∷◌, ◌++◌, Option, Some, None, codes, filter, filter_map, is_some, map, inl, inr, slice_get, arith}
-use Rattle.std.specs.declared.cmp.Ordering.TheVariants.{Less, Equal, Greater}
+use Rattle.std.proofs.Common.{◌≡◌, refl, sym, ◌∙◌, ap, subst, ℕ, zero, suc, ◌+◌, Bool, true, false, not, cond, List, [], ◌∷◌, Option, Some, None, filter_map, is_some, map, inl, inr, slice_get, arith}
+use Rattle.std.specs.declared.cmp.Ordering.TheVariants.{Less}
 use Rattle.std.specs.Ordering.{is_eq, ordering_then}
 use Rattle.std.specs.Cmp.{Equal-is}
-use Rattle.std.specs.List.{flat_map, zip}
+use Rattle.std.specs.List.{zip}
 use Rattle.std.proofs.lemmas.Cmp.{nat_list_cmp_total, tied_itself}
 use Rattle.vocabulary.specs.declared.term.Term.{Term, Named}
-use Rattle.vocabulary.specs.Lists.{In, here, there, IsListOf, Pairwise}
+use Rattle.vocabulary.specs.Lists.{In, here, IsListOf, Pairwise}
 use Rattle.vocabulary.specs.Texts.{text_cmp}
 use Rattle.vocabulary.proofs.Lists.{In-append_left, In-append_right, In-append_cases, In-map}
 use Rattle.annotation_language.specs.declared.notes.EventNote.{EventNote}
@@ -16,11 +16,11 @@ use Rattle.log_assembly.specs.declared.asked.Asked.{Asked}
 use Rattle.log_assembly.specs.declared.attributes.Attribute.{Attribute}
 use Rattle.log_assembly.specs.declared.occurrences.Occurrence.{Occurrence}
 use Rattle.log_assembly.specs.Answered.{AreAsked, IsEventAsked}
-use Rattle.log_assembly.specs.Asked.{Certain, IsAnswer, IsCase, IsCaseOf, IsObject}
+use Rattle.log_assembly.specs.Asked.{Certain, IsAnswer, IsCaseOf, IsObject}
 use Rattle.log_assembly.specs.Found.{homes_at, keys_at, names_of}
 use Rattle.log_assembly.specs.Judged.{first_unmet, is_kept, times_of}
-use Rattle.log_assembly.specs.Gathered.{at_case, event_occurrences, moment_of, object_occurrences, occurrence, occurrence_cmp, occurrences_from, occurrences_if, occurrences_in}
-use Rattle.log_assembly.specs.TheLog.{IsKept, IsMoment, IsTimeOf, Moment, moment_cmp}
+use Rattle.log_assembly.specs.Gathered.{at_case, event_occurrences, moment_of, object_occurrences, occurrence, occurrence_cmp, occurrences_from, occurrences_if}
+use Rattle.log_assembly.specs.TheLog.{IsKept, IsMoment, Moment, moment_cmp}
 use Rattle.log_assembly.proofs.Homes.{from_flat_map, from_map, homes_from, homes_to, in_flat_map}
 use Rattle.log_assembly.proofs.Judging.{all_met, none_unmet, times_from, times_to}
 use Rattle.log_assembly.proofs.Occurring.{text_level}

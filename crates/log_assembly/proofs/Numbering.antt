@@ -2,7 +2,6 @@
 use Rattle.std.proofs.Common.{◌≡◌, refl, ◌∙◌, sym, ap, ℕ, ◌+◌, ◌<◌, List, [], ◌∷◌, ◌++◌, codes, decimal, length, get_or, take, arith}
 use Rattle.std.proofs.lemmas.List.{take_more, length-take-le}
 use Rattle.vocabulary.specs.declared.term.Term.{Term}
-use Rattle.xes_writer.specs.declared.log.Entry.{Entry}
 use Rattle.log_assembly.specs.TheLog.{entry_of, numbered}
 
 numbered_last : (key : List ℕ) (n m : ℕ) (vs : List Term) (v : Term) → m ≡ n + length vs → numbered key n (vs ++ v ∷ []) ≡ numbered key n vs ++ entry_of (key ++ codes "#" ++ decimal m) v ∷ []

@@ -1,5 +1,5 @@
 -- The order of occurrences, and that they are put in order; those of more and more annotations.
-use Rattle.std.proofs.Common.{◌≡◌, refl, sym, ◌∙◌, ap, ℕ, ◌+◌, ◌<◌, ◌≤◌, Bool, true, List, [], ◌∷◌, ◌++◌, length, get_or, take, arith, append_assoc, append-nil, Contains}
+use Rattle.std.proofs.Common.{◌≡◌, refl, sym, ◌∙◌, ap, ℕ, ◌+◌, ◌<◌, ◌≤◌, Bool, List, [], ◌∷◌, ◌++◌, length, get_or, take, arith, append_assoc, append-nil}
 use Rattle.std.specs.declared.cmp.Ordering.{Ordering}
 use Rattle.std.specs.declared.cmp.Ordering.TheVariants.{Less, Equal, Greater}
 use Rattle.std.specs.Ordering.{is_eq, nat_cmp, ordering_index, ordering_then}
@@ -22,7 +22,7 @@ use Rattle.annotation_language.specs.declared.notes.EventNote.{EventNote}
 use Rattle.log_assembly.specs.declared.asked.AskedEvent.{AskedEvent}
 use Rattle.log_assembly.specs.declared.occurrences.Occurrence.{Occurrence}
 use Rattle.log_assembly.specs.Gathered.{event_occurrences, moment_of, occurrence_cmp, occurrences_from}
-use Rattle.log_assembly.specs.TheLog.{Moment, moment_cmp}
+use Rattle.log_assembly.specs.TheLog.{moment_cmp}
 use Rattle.log_assembly.proofs.OneLog.{moment_total}
 use Rattle.log_assembly.proofs.Runs.{rises}
 use Rattle.log_assembly.proofs.Tuples.{not_above}

@@ -1,20 +1,19 @@
 -- The part of an ordered list that stands alike to a key is an ordered list.
-use Rattle.std.proofs.Common.{◌≡◌, refl, sym, ◌∙◌, ap, subst, ℕ, Bool, true, false, cond, List, [], ◌∷◌, Option, Some, None, filter, filter_map}
+use Rattle.std.proofs.Common.{◌≡◌, refl, ap, subst, ℕ, Bool, true, false, cond, List, [], ◌∷◌, Option, Some, None, filter, filter_map}
 use Rattle.std.specs.declared.cmp.Ordering.{Ordering}
 use Rattle.std.specs.declared.cmp.Ordering.TheVariants.{Less, Equal, Greater}
 use Rattle.std.specs.Ordering.{is_eq, ordering_then}
 use Rattle.std.specs.Cmp.{Equal-is}
 use Rattle.std.specs.List.{AllByRecursion, cons_option}
 use Rattle.std.specs.List.Sorted.{IsStrictlySortedBy}
-use Rattle.std.proofs.lemmas.Cmp.{nat_list_cmp_total, tied_itself}
-use Rattle.std.proofs.lemmas.Map.Keys.{sorted_head, sorted_tail}
-use Rattle.vocabulary.specs.declared.term.Term.{Term, New', Named, Value, end_of-Term, more_of-Term}
-use Rattle.vocabulary.specs.Lists.{In, here, there, IsListOf}
+use Rattle.std.proofs.lemmas.Cmp.{tied_itself}
+use Rattle.vocabulary.specs.declared.term.Term.{Term, New', Named, Value}
+use Rattle.vocabulary.specs.Lists.{IsListOf}
 use Rattle.vocabulary.specs.Texts.{text_cmp}
 use Rattle.vocabulary.proofs.Lists.{In-filter_map, from_filter_map}
 use Rattle.queries.specs.Order.{term_cmp, tuple_cmp}
 use Rattle.queries.proofs.Ordered.{tuples_ordered}
-use Rattle.log_assembly.specs.Found.{begins, lone_name, names_of, run_of, second, values_at}
+use Rattle.log_assembly.specs.Found.{begins, lone_name, names_of, second, values_at}
 
 -- the same list by another condition that holds of the same
 pub listed_by : {A : Type 0} (cmp : A → A → Ordering) (P Q : A → Type 0) (xs : List A) → ((x : A) → P x → Q x) → ((x : A) → Q x → P x) → IsListOf cmp P xs → IsListOf cmp Q xs

@@ -1,5 +1,5 @@
 -- The pairs of two lists, one more at a time.
-use Rattle.std.proofs.Common.{◌≡◌, ◌∙◌, sym, ap, map, ℕ, ◌+◌, ◌<◌, ◌≤◌, List, [], ◌∷◌, ◌++◌, length, get_or, take, arith, ◌⊎◌, inl, inr, min}
+use Rattle.std.proofs.Common.{◌≡◌, ◌∙◌, sym, ap, map, ℕ, ◌+◌, ◌<◌, ◌≤◌, List, [], ◌∷◌, ◌++◌, length, get_or, take, arith, ◌⊎◌, inl, inr}
 use Rattle.std.specs.List.{flat_map, zip}
 use Rattle.std.proofs.lemmas.List.{flat_map_more, take_more, take_all, map-append}
 use Rattle.std.proofs.lemmas.Slice.Zip.{length-zip, get_or-zip}

@@ -1,5 +1,5 @@
 -- What annotations ask, and which answers are those that they ask for.
-use Rattle.std.specs.Prelude.{◌≡◌, ℕ, List, [], ◌∷◌, ◌++◌, Option, Some, None, option_to_list, filter_map}
+use Rattle.std.specs.Prelude.{List, ◌∷◌, ◌++◌, Option, Some, None, option_to_list, filter_map}
 use Rattle.std.specs.List.{flat_map, All}
 use Rattle.std.specs.List.Sorted.{IsStrictlySortedBy}
 use Rattle.vocabulary.specs.Lists.{In, IsListOf, Pairwise}

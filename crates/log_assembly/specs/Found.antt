@@ -4,7 +4,7 @@ use Rattle.std.specs.List.{list_any, zip}
 use Rattle.std.specs.declared.cmp.Ordering.{Ordering}
 use Rattle.std.specs.declared.cmp.Ordering.TheVariants.{Less}
 use Rattle.std.specs.Ordering.{is_eq}
-use Rattle.vocabulary.specs.declared.term.Term.{Term, New', Named, Value, end_of-Term, more_of-Term}
+use Rattle.vocabulary.specs.declared.term.Term.{Term, New', Named, Value}
 use Rattle.queries.specs.Order.{term_cmp}
 use Rattle.certain_answers.specs.declared.answers.Answers.{Answers}
 use Rattle.annotation_language.specs.declared.notes.KeySource.{KeySource}

@@ -1,12 +1,11 @@
 -- The events of a log with their cases, computed from answers; and their rows.
 use Rattle.std.specs.Prelude.{◌+◌, ℕ, Bool, List, [], ◌∷◌, ◌++◌, Option, Some, None, if◌then◌else◌, codes, filter, map, slice_get}
-use Rattle.std.specs.List.{flat_map, zip}
+use Rattle.std.specs.List.{flat_map}
 use Rattle.std.specs.declared.cmp.Ordering.{Ordering}
 use Rattle.std.specs.Ordering.{is_eq, ordering_then}
 use Rattle.vocabulary.specs.declared.ids.ValueKind.TheVariants.{Text}
 use Rattle.vocabulary.specs.declared.term.Term.{Term, Named, Value}
 use Rattle.vocabulary.specs.Texts.{text_cmp}
-use Rattle.xes_writer.specs.declared.log.Entry.{Entry}
 use Rattle.xes_writer.specs.declared.log.EventRow.{EventRow}
 use Rattle.xes_writer.specs.declared.log.TraceRow.{TraceRow}
 use Rattle.xes_writer.specs.declared.log.Log.{Log}

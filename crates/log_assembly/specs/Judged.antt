@@ -1,9 +1,9 @@
 -- Verdicts, attributes and times, computed from an object's keys with their values.
-use Rattle.std.specs.Prelude.{◌==◌, ◌<◌, ℕ, Bool, true, false, not, List, [], ◌∷◌, ◌++◌, Option, Some, None, if◌then◌else◌, codes, filter, filter_map, find, is_some, length, map, nat_lt}
+use Rattle.std.specs.Prelude.{◌==◌, ℕ, Bool, true, false, not, List, [], ◌∷◌, Option, Some, None, if◌then◌else◌, codes, filter, filter_map, find, is_some, length, map, nat_lt}
 use Rattle.std.specs.List.{flat_map}
 use Rattle.std.specs.Str.{bytes_eq}
 use Rattle.vocabulary.specs.declared.ids.ValueKind.TheVariants.{Text, Int, Bool as BoolKind, Time}
-use Rattle.vocabulary.specs.declared.term.Term.{Term, New', Named, Value, end_of-Term, more_of-Term}
+use Rattle.vocabulary.specs.declared.term.Term.{Term, New', Named, Value}
 use Rattle.xes_writer.specs.declared.log.Entry.{Entry}
 use Rattle.annotation_language.specs.declared.notes.Rule.{Rule}
 use Rattle.annotation_language.specs.declared.notes.Rule.TheVariants.{Mandatory, Single, Many}

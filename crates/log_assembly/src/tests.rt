@@ -22,15 +22,15 @@ const TEXT: Side = Side::Value(ValueKind::Text);
 
 const TIME: Side = Side::Value(ValueKind::Time);
 
-const P1: &str = "http://conf.org/paper/1";
+const PAPER_ONE: &str = "http://conf.org/paper/1";
 
-const P2: &str = "http://conf.org/paper/2";
+const PAPER_TWO: &str = "http://conf.org/paper/2";
 
-const R1: &str = "http://conf.org/review/r1";
+const REVIEW_ONE: &str = "http://conf.org/review/r1";
 
-const R2: &str = "http://conf.org/review/r2";
+const REVIEW_TWO: &str = "http://conf.org/review/r2";
 
-const R3: &str = "http://conf.org/review/r3";
+const REVIEW_THREE: &str = "http://conf.org/review/r3";
 
 fn term(alloc: Global, side: Side, text: &str) -> Result<Term, AllocError> {
     let name = Name::new(alloc, text)?;
@@ -195,14 +195,19 @@ fn says(
 }
 
 fn submissions(alloc: Global) -> Result<Noted, AllocError> {
-    let mut submit = annotation(alloc, "submit", &[P1, P2], &[(P1, P1), (P2, P2)])?;
+    let mut submit = annotation(
+        alloc,
+        "submit",
+        &[PAPER_ONE, PAPER_TWO],
+        &[(PAPER_ONE, PAPER_ONE), (PAPER_TWO, PAPER_TWO)],
+    )?;
     submit.fixed(alloc, "concept:name", Rule::Mandatory, "submit paper")?;
     let times = [
-        (P1, "2024-03-01T09:00:00.000+00:00"),
-        (P2, "2024-03-02T08:30:00.000+00:00"),
+        (PAPER_ONE, "2024-03-01T09:00:00.000+00:00"),
+        (PAPER_TWO, "2024-03-02T08:30:00.000+00:00"),
     ];
     submit.asked(alloc, "time:timestamp", Rule::Mandatory, TIME, &times)?;
-    let people = [(P1, "Ada"), (P2, "Bo")];
+    let people = [(PAPER_ONE, "Ada"), (PAPER_TWO, "Bo")];
     submit.asked(alloc, "org:resource", Rule::Single, TEXT, &people)?;
     Ok(submit)
 }
@@ -211,16 +216,24 @@ fn conference_reviews(alloc: Global) -> Result<Noted, AllocError> {
     let mut review = annotation(
         alloc,
         "review",
-        &[R1, R2, R3],
-        &[(R1, P1), (R2, P1), (R3, P2)],
+        &[REVIEW_ONE, REVIEW_TWO, REVIEW_THREE],
+        &[
+            (REVIEW_ONE, PAPER_ONE),
+            (REVIEW_TWO, PAPER_ONE),
+            (REVIEW_THREE, PAPER_TWO),
+        ],
     )?;
     review.fixed(alloc, "concept:name", Rule::Mandatory, "review paper")?;
     let times = [
-        (R1, "2024-03-10T11:00:00.000+00:00"),
-        (R3, "2024-03-10T23:00:00.000+00:00"),
+        (REVIEW_ONE, "2024-03-10T11:00:00.000+00:00"),
+        (REVIEW_THREE, "2024-03-10T23:00:00.000+00:00"),
     ];
     review.asked(alloc, "time:timestamp", Rule::Mandatory, TIME, &times)?;
-    let people = [(R1, "Bo"), (R2, "Cy"), (R3, "Ada")];
+    let people = [
+        (REVIEW_ONE, "Bo"),
+        (REVIEW_TWO, "Cy"),
+        (REVIEW_THREE, "Ada"),
+    ];
     review.asked(alloc, "org:resource", Rule::Single, TEXT, &people)?;
     review.fixed(alloc, "lifecycle:transition", Rule::Single, "complete")?;
     Ok(review)
@@ -231,8 +244,8 @@ fn the_conference_has_its_log(rt: HostRuntime) -> Result<(), AllocError> {
     let alloc = rt.alloc();
     let mut conference = with_cases(
         alloc,
-        &[P1, P2],
-        &[(P1, "Chase & Match"), (P2, "Logs, Events")],
+        &[PAPER_ONE, PAPER_TWO],
+        &[(PAPER_ONE, "Chase & Match"), (PAPER_TWO, "Logs, Events")],
     )?;
     conference.add(alloc, submissions(alloc)?)?;
     conference.add(alloc, conference_reviews(alloc)?)?;
@@ -281,7 +294,12 @@ fn visits(alloc: Global) -> Result<Noted, AllocError> {
     let objects = ["o1", "o2", "o3", "o4"];
     let cases = [("o1", "c1"), ("o2", "c1"), ("o3", "c2"), ("o4", "c3")];
     let mut visit = annotation(alloc, "visit", &objects, &cases)?;
-    let times = [("o1", "T1"), ("o2", "T1"), ("o2", "T2"), ("o4", "T1")];
+    let times = [
+        ("o1", "noon"),
+        ("o2", "noon"),
+        ("o2", "two"),
+        ("o4", "noon"),
+    ];
     visit.asked(alloc, "time:timestamp", Rule::Mandatory, TIME, &times)?;
     let values = [("o1", "x"), ("o1", "y"), ("o2", "x"), ("o2", "y")];
     visit.asked(alloc, "note", Rule::Many, TEXT, &values)?;
@@ -301,7 +319,7 @@ fn keys_and_names_follow_their_rules(rt: HostRuntime) -> Result<(), AllocError> 
     <string key=\"concept:name\" value=\"c1\"/>
     <event>
       <string key=\"object\" value=\"o1\"/>
-      <date key=\"time:timestamp\" value=\"T1\"/>
+      <date key=\"time:timestamp\" value=\"noon\"/>
       <string key=\"note#1\" value=\"x\"/>
       <string key=\"note#2\" value=\"y\"/>
     </event>
@@ -325,7 +343,7 @@ fn reviews(alloc: Global, name: &str) -> Result<Noted, AllocError> {
     let cases = [("r1", "p1"), ("r1", "p2"), ("r3", "p1"), ("r3", "p2")];
     let mut review = annotation(alloc, name, &["r1", "r3"], &cases)?;
     review.fixed(alloc, "concept:name", Rule::Mandatory, name)?;
-    let times = [("r1", "T"), ("r3", "T")];
+    let times = [("r1", "noon"), ("r3", "noon")];
     review.asked(alloc, "time:timestamp", Rule::Mandatory, TIME, &times)?;
     Ok(review)
 }
@@ -335,7 +353,7 @@ fn review_text(alloc: Global, object: &str, name: &str) -> Result<String, AllocE
         "    <event>
       <string key=\"object\" value=\"{object}\"/>
       <string key=\"concept:name\" value=\"{name}\"/>
-      <date key=\"time:timestamp\" value=\"T\"/>
+      <date key=\"time:timestamp\" value=\"noon\"/>
     </event>
 "
     )

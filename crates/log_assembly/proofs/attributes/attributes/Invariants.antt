@@ -1,4 +1,4 @@
-use Rattle.std.proofs.Common.{◌≡◌, ◌≤◌, ◌-◌, length, map, take}
+use Rattle.std.proofs.Common.{◌≡◌, ◌-◌, length, map, take}
 use Rattle.std.specs.List.{zip}
 use Rattle.log_assembly.specs.Found.{attribute_of}
 use Rattle.log_assembly.proofs.attributes.attributes.Given as goal

@@ -1,9 +1,8 @@
 -- What is written is the report.
-use Rattle.std.proofs.Common.{◌≡◌, ◌∙◌, ap, List, ℕ, [], ◌∷◌, ◌++◌, filter, length, map}
+use Rattle.std.proofs.Common.{◌≡◌, ◌∙◌, ap, List, ℕ, ◌++◌, filter, length, map}
 use Rattle.std.specs.List.{flat_map, sum_by, zip}
 use Rattle.certain_semantics.specs.Certain.{IsCertain}
 use Rattle.annotation_language.specs.declared.notes.Annotations.{Annotations}
-use Rattle.annotation_language.specs.declared.notes.EventNote.{EventNote}
 use Rattle.log_assembly.specs.declared.asked.Asked.{Asked}
 use Rattle.log_assembly.specs.declared.verdict.Judgement.{Judgement}
 use Rattle.log_assembly.specs.Found.{names_of}
