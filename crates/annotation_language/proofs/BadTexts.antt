@@ -1,5 +1,5 @@
 -- Texts that no key may be, by their tests.
-use Rattle.std.proofs.Common.{◌≡◌, refl, sym, ◌||◌, ◌&&◌, ◌==◌, not, Bool, true, false, ℕ, List, [], ◌∷◌, length, nat_lt, codes, chars, arith}
+use Rattle.std.proofs.Common.{◌≡◌, refl, sym, ◌||◌, ◌&&◌, ◌==◌, not, Bool, true, false, ℕ, List, length, nat_lt, codes, chars, arith}
 use Rattle.std.proofs.lemmas.Bool.Decides.{nat_tests}
 use Rattle.std.specs.List.{list_any, list_all}
 use Rattle.std.specs.Str.{bytes_eq}

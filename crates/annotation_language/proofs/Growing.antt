@@ -1,5 +1,5 @@
 -- A line that breaks no rule gives what is grown with it.
-use Rattle.std.proofs.Common.{◌≡◌, refl, ℕ, Option, None, Result, Ok}
+use Rattle.std.proofs.Common.{◌≡◌, refl, ℕ, None, Ok}
 use Rattle.uml_model.specs.Rules.{Known, class_named, link_named}
 use Rattle.annotation_language.specs.Written.{Line}
 use Rattle.annotation_language.specs.Lines.{Noted, broken, grown}

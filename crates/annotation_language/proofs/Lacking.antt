@@ -1,5 +1,5 @@
 -- What the first event that lacks something lacks.
-use Rattle.std.proofs.Common.{◌≡◌, ◌∙◌, refl, sym, ap, ℕ, ◌+◌, ◌<◌, List, [], ◌∷◌, Option, Some, None, option_map, length, drop, get_or, arith}
+use Rattle.std.proofs.Common.{◌≡◌, ◌∙◌, sym, ℕ, ◌+◌, ◌<◌, List, Option, Some, None, option_map, length, drop, get_or, arith}
 use Rattle.std.proofs.lemmas.List.{at_drop_more}
 use Rattle.line_lexer.specs.declared.fault.LineFault.{LineFault}
 use Rattle.annotation_language.specs.declared.notes.EventNote.{EventNote}

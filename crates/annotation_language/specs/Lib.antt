@@ -6,3 +6,4 @@ pub mod Lines
 pub mod Resolved
 pub mod Changing
 pub mod Reading
+pub mod Named

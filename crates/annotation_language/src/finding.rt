@@ -5,10 +5,26 @@ ghost use Rattle.std.specs.Option.{option_copied};
 ghost use Rattle.std.specs.Str.{bytes_eq};
 ghost use Rattle.annotation_language.specs.Complete.{has_key};
 ghost use Rattle.annotation_language.specs.Lines.{event_named, is_taken, of_event, keys_in};
+ghost use Rattle.annotation_language.specs.Named.{query_named, noted_query};
 
 use crate::notes::{Annotations, EventNote, NamedQuery};
+use queries::Query;
 
 impl Annotations {
+    /// The query that can be asked by this name: the case query by `case`, the objects of an event and the query of a
+    /// `query` line by their names.
+    pub fn query_named(&self, name: &str) -> Option<&Query>
+        ensures { option_copied result ≡ query_named self.now name.now }
+    {
+        if name == "case" {
+            return self.case_query.as_ref();
+        }
+        if let Some(event) = self.event_named(name) {
+            return Some(&event.objects);
+        }
+        noted_query(self.queries.items(), name)
+    }
+
     fn event_named(&self, name: &str) -> Option<&EventNote>
         ensures { option_copied result ≡ event_named self.now name.now }
     {
@@ -86,6 +102,22 @@ fn has_event(events: &[EventNote], name: &str) -> bool
     ensures { result ≡ list_any (λ event. bytes_eq event.name name.now) events.now }
 {
     events.iter().any(|event| event.name.text() == name)
+}
+
+fn noted_query<'s>(queries: &'s [NamedQuery], name: &str) -> Option<&'s Query>
+    ensures { option_copied result ≡ noted_query queries.now name.now }
+{
+    let at = place_of_query(queries, name)?;
+    match queries.get(at) {
+        Some(query) => Some(&query.query),
+        None => None,
+    }
+}
+
+fn place_of_query(queries: &[NamedQuery], name: &str) -> Option<usize>
+    ensures { result ≡ position (λ q. bytes_eq q.name name.now) queries.now }
+{
+    queries.iter().position(|query| query.name.text() == name)
 }
 
 fn has_query(queries: &[NamedQuery], name: &str) -> bool

@@ -1,8 +1,10 @@
 //! Annotations with the names of the variables of the queries that can be asked by name.
-ghost use Rattle.std.specs.Prelude.{◌≡◌, ◌∷◌, ◌++◌, [], Some, map, IfOk, OnOk};
+ghost use Rattle.std.specs.Prelude.{◌≡◌, ◌∷◌, ◌++◌, [], Some, map, option_map, position, IfOk, OnOk};
+ghost use Rattle.std.specs.Str.{bytes_eq};
 ghost use Rattle.annotation_language.specs.Lines.{nothing};
 ghost use Rattle.annotation_language.specs.Resolved.{texts};
 ghost use Rattle.annotation_language.specs.Changing.{with_cases, with_key};
+ghost use Rattle.annotation_language.specs.Named.{variables_named};
 
 use crate::notes::{Annotations, EventNote, KeyNote, KeySource, NamedQuery};
 use queries::Query;
@@ -40,6 +42,24 @@ impl Variables {
             variables: List::from_vec(names),
         })
     }
+
+    fn is_of(&self, name: &str) -> bool
+        ensures { result ≡ bytes_eq self.now.name name.now }
+    {
+        self.name.text() == name
+    }
+
+    fn names(&self) -> &[Name]
+        ensures { result.now ≡ self.now.variables }
+    {
+        self.variables.items()
+    }
+}
+
+fn place_of(found: &[Variables], name: &str) -> Option<usize>
+    ensures { result ≡ position (λ v. bytes_eq v.name name.now) found.now }
+{
+    found.iter().position(|variables| variables.is_of(name))
 }
 
 fn copied(alloc: Global, names: &[&str]) -> Result<Vec<Name>, AllocError>
@@ -86,6 +106,18 @@ impl Noted {
         ensures { result.now ≡ self.now.notes }
     {
         &self.notes
+    }
+
+    /// The variables, by their numbers, of the query that can be asked by this name.
+    pub fn variables(&self, name: &str) -> Option<&[Name]>
+        ensures { option_map (λ found. found.now) result ≡ variables_named self.now.variables name.now }
+    {
+        let found = self.variables.items();
+        let at = place_of(found, name)?;
+        match found.get(at) {
+            Some(variables) => Some(variables.names()),
+            None => None,
+        }
     }
 
     pub(crate) fn add_case(&mut self, query: Query, variables: Variables) -> Result<(), AllocError>

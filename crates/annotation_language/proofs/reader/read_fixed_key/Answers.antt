@@ -2,7 +2,6 @@
 use Rattle.std.proofs.Common.{refl, sym}
 use Rattle.annotation_language.specs.Written.{Key, Is}
 use Rattle.annotation_language.specs.Lines.{broken, grown}
-use Rattle.annotation_language.specs.Shown.{shown_query}
 use Rattle.annotation_language.proofs.Growing.{read_is}
 use Rattle.annotation_language.proofs.reader.read_fixed_key.Goals as goal
 

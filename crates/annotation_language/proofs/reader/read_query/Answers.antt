@@ -1,5 +1,5 @@
 -- No rule is broken, and what is known is grown.
-use Rattle.std.proofs.Common.{refl, sym}
+use Rattle.std.proofs.Common.{refl}
 use Rattle.annotation_language.specs.Written.{Query}
 use Rattle.annotation_language.specs.Lines.{broken, grown}
 use Rattle.annotation_language.specs.Shown.{shown_query}

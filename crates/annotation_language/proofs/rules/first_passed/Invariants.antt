@@ -1,5 +1,5 @@
 -- What is left decides.
-use Rattle.std.proofs.Common.{◌≡◌, [], drop}
+use Rattle.std.proofs.Common.{◌≡◌, drop}
 use Rattle.line_lexer.specs.Judging.{first_passed}
 use Rattle.annotation_language.proofs.rules.first_passed.Given as goal
 

@@ -1,4 +1,4 @@
-use Rattle.std.proofs.Common.{◌∙◌, sym, ap, is_ok}
+use Rattle.std.proofs.Common.{sym, ap, is_ok}
 use Rattle.std.proofs.ResultArms.{chosen}
 use Rattle.annotation_language.specs.Lines.{variable}
 use Rattle.annotation_language.specs.Shown.{shown_query}
