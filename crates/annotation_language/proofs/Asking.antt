@@ -50,3 +50,10 @@ pub few_variables : (model : Known) (missing double : Bool) (q : Asked) (objects
 few_variables model missing double q objects bad_key others e =
     let behind = (Variables, length q.head) ∷ others in
     within (Variables, length (variables_of q)) behind (rest_unpassed (Atoms, length q.atoms) ((Variables, length (variables_of q)) ∷ behind) (all_within model missing double q objects bad_key others e))
+
+pub few_heads : (model : Known) (missing double : Bool) (q : Asked) (objects : List (List ℕ)) (bad_key : Bool) (others : List (Counted × ℕ)) → broken_query (class_named model) (link_named model) missing double q objects bad_key others ≡ None → length q.head ≤ 16
+few_heads model missing double q objects bad_key others e =
+    let behind = (Variables, length q.head) ∷ others in
+    let all = all_within model missing double q objects bad_key others e in
+    let last = rest_unpassed (Variables, length (variables_of q)) behind (rest_unpassed (Atoms, length q.atoms) ((Variables, length (variables_of q)) ∷ behind) all) in
+    within (Variables, length q.head) others last

@@ -1,3 +1,4 @@
+pub mod Askable
 pub mod Complete
 pub mod Written
 pub mod Shown

@@ -12,6 +12,8 @@ mod places;
 mod reader;
 mod resolved;
 mod rules;
+#[cfg(test)]
+mod tests;
 mod variables;
 mod written;
 

@@ -2,6 +2,7 @@
 ghost use Rattle.std.specs.Prelude.{◌≡◌, ◌∷◌, ◌++◌, [], Some, map, option_map, position, IfOk, OnOk};
 ghost use Rattle.std.specs.Str.{bytes_eq};
 ghost use Rattle.annotation_language.specs.Lines.{nothing};
+ghost use Rattle.annotation_language.specs.Askable.{AreAskable};
 ghost use Rattle.annotation_language.specs.Resolved.{texts};
 ghost use Rattle.annotation_language.specs.Changing.{with_cases, with_key};
 ghost use Rattle.annotation_language.specs.Named.{variables_named};
@@ -94,7 +95,8 @@ impl Model for Noted {
 impl Noted {
     /// What no line says.
     pub fn new(alloc: Global) -> Noted
-        ensures { result ≡ nothing }
+        ensures made { result ≡ nothing }
+        ensures askable { AreAskable result.notes }
     {
         Noted {
             notes: Annotations::new(alloc),

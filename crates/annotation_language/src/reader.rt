@@ -1,4 +1,5 @@
 //! Reading an annotation line.
+ghost use Rattle.annotation_language.specs.Askable.{AreAskable};
 ghost use Rattle.std.specs.Prelude.{◌≡◌, ◌≢◌, OnOk, IfErr, Ok, Err};
 ghost use Rattle.uml_model.specs.Rules.{class_named, link_named};
 ghost use Rattle.annotation_language.specs.Written.{Case, CaseName, Event, Cases, Key, Query, Answers, Is};
@@ -30,6 +31,7 @@ pub fn read_annotation_line(
     ensures read { OnOk result (read_annotation_line (class_named model.now) (link_named model.now) line.now.number notes.old line.now.text.now ≡ Ok notes.new) }
     ensures fault { IfErr result (λ e. e ≢ LineFault.NoMemory → read_annotation_line (class_named model.now) (link_named model.now) line.now.number notes.old line.now.text.now ≡ Err e) }
     ensures unchanged { IfErr result (λ e. e ≢ LineFault.NoMemory → notes.new ≡ notes.old) }
+    ensures askable { AreAskable notes.old.notes → OnOk result (AreAskable notes.new.notes) }
 {
     let tokens = tokens_of(alloc, line.text)?;
     if tokens.is_empty() {
