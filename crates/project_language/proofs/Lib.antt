@@ -1,0 +1,5 @@
+mod Next
+mod Seeing
+mod Folding
+mod Bytes
+mod Samples
