@@ -1,6 +1,10 @@
 //! The certain answers of queries over mapped tables.
 #![tactic(auto)]
 
-mod answers;
+mod answer_list;
+mod answering;
+mod collecting;
+mod ordering;
 
-pub use answers::Answers;
+pub use answer_list::Answers;
+pub use answering::answers;

@@ -1,0 +1,4 @@
+pub mod Certain
+pub mod Gained
+pub mod InOrder
+pub mod Known

@@ -1,0 +1,12 @@
+use Rattle.std.proofs.Common.{◌∙◌, ap, ◌++◌}
+use Rattle.std.proofs.lemmas.Result.{on_ok_weaker}
+use Rattle.certain_answers.specs.Collected.{all_heads}
+use Rattle.certain_answers.proofs.Gained.{images_gained}
+use Rattle.certain_answers.proofs.collecting.add_query.Goals as goal
+
+pub returns : goal.returns
+returns c =
+    on_ok_weaker c.add_row_queries.result
+    (λ e. images_gained c.args.mappings.now c.args.query.now c.in_ok-list.list c.args.tables.now c.args.out.now.items c.add_row_queries.new.out.items c.have_texts.ensures c.in_ok-list.ensures.exact
+    (e ∙ ap (λ list. c.args.out.now.items ++ all_heads c.args.tables.now list) c.items.ensures))
+    c.add_row_queries.ensures
