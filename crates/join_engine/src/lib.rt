@@ -1,0 +1,6 @@
+//! The tuples of row queries over tables.
+#![tactic(auto)]
+
+mod joining;
+
+pub use joining::{Found, join};
