@@ -1,7 +1,6 @@
 -- The tuples behind a front, taken apart by the next row number, and cut off where a condition fails.
-use Rattle.std.proofs.Common.{◌≡◌, ◌∙◌, sym, refl, ◌||◌, ap, subst, ◌+◌, ◌<◌, ◌≤◌, ◌==◌, max, Bool, true, false, not, ◌&&◌, ℕ, zero, suc, List, [], ◌∷◌, ◌++◌, length, map, filter, drop, get_or, append_assoc, length-append, arith, if◌then◌else◌, add-one, add-zero, add-suc, Some, None, Ok, Err, Result, take}
+use Rattle.std.proofs.Common.{◌≡◌, ◌∙◌, sym, refl, ◌||◌, ap, ◌+◌, ◌<◌, ◌≤◌, ◌==◌, Bool, true, false, not, ◌&&◌, ℕ, zero, suc, List, [], ◌∷◌, ◌++◌, length, map, filter, drop, get_or, append_assoc, arith, if◌then◌else◌, add-one, add-zero, Some, None, take}
 use Rattle.std.specs.List.{flat_map, list_all, list_any, range_with_len}
-use Rattle.std.specs.Result.{OnOk}
 use Rattle.std.specs.Str.{bytes_eq}
 use Rattle.std.proofs.lemmas.Bool.{eqb-true}
 use Rattle.std.proofs.lemmas.List.{append-nil, drop_all, drop_more, get_or_default, length_push, map-append, take_at}
@@ -12,9 +11,8 @@ use Rattle.mapping_facts.specs.declared.query.Condition.{Condition}
 use Rattle.mapping_facts.specs.declared.query.Condition.TheVariants.{Equal, EqualText, Differ, DifferText, IsNull, NotNull}
 use Rattle.mapping_facts.specs.declared.query.Place.{Place}
 use Rattle.mapping_facts.specs.declared.query.RowQuery.{RowQuery}
-use Rattle.mapping_facts.specs.declared.query.SourceQuery.{SourceQuery}
-use Rattle.mapping_facts.specs.RowQueries.{are_apart, is_asked, is_defined, row_tuples}
-use Rattle.mapping_facts.specs.Tuples.{cell_in, cell_of, compares, condition_holds, differs, product, satisfies, table_rows, tuple_rows}
+use Rattle.mapping_facts.specs.RowQueries.{is_asked, row_tuples}
+use Rattle.mapping_facts.specs.Tuples.{cell_of, compares, condition_holds, differs, product, satisfies, table_rows, tuple_rows}
 use Rattle.join_engine.specs.Fronts.{asked_behind, is_cut, reach}
 
 -- the rows of a front stay the same behind it
@@ -161,6 +159,10 @@ pub behind_nothing : (tables : List Loaded) (q : RowQuery) → asked_behind tabl
 unfolding asked_behind
 behind_nothing tables q = ap (filter (is_asked tables q)) (unchanged (product tables q.query.tables))
 
+-- a row is put behind the front, and taken off again
+pub pushed_row : (front before pushed : List ℕ) (row : ℕ) → before ≡ front → pushed ≡ before ++ (row ∷ []) → pushed ≡ front ++ (row ∷ [])
+pushed_row front before pushed row b p = p ∙ ap (λ z. z ++ (row ∷ [])) b
+
 pub front_again : (front before pushed after left : List ℕ) (row depth : ℕ) → length front ≡ depth → before ≡ front → pushed ≡ before ++ (row ∷ []) → after ≡ pushed → left ≡ take depth after → left ≡ front
 front_again front before pushed after left row depth len b p a l =
-    l ∙ ap (take depth) (a ∙ p ∙ ap (λ z. z ++ (row ∷ [])) b) ∙ take_at front (row ∷ []) depth len
+    l ∙ ap (take depth) (a ∙ pushed_row front before pushed row b p) ∙ take_at front (row ∷ []) depth len

@@ -57,11 +57,8 @@ fn reach(condition: &Condition) -> usize
 fn is_cut(query: &SourceQuery, tables: &[Table], front: &[u32]) -> bool
     ensures { result ≡ is_cut tables.now query.now front.now }
 {
-    query
-        .conditions
-        .items()
-        .iter()
-        .any(|c| reach(c) == front.len() && !holds(c, query, tables, front))
+    query.conditions.items().iter().any(|c| reach(c) == front.len()
+        && !holds(c, query, tables, front))
 }
 
 fn are_defined(query: &RowQuery, tables: &[Table], rows: &[u32]) -> bool

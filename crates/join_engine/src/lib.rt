@@ -4,3 +4,6 @@
 mod joining;
 
 pub use joining::{Found, join};
+
+#[cfg(test)]
+mod tests;

@@ -11,7 +11,7 @@ use Rattle.vocabulary.specs.Lists.{Pairwise}
 use Rattle.annotation_language.specs.declared.notes.KeyNote.{KeyNote}
 use Rattle.annotation_language.specs.declared.notes.EventNote.{EventNote}
 use Rattle.annotation_language.specs.declared.notes.Annotations.{Annotations}
-use Rattle.certain_answers.specs.declared.answers.Answers.{Answers}
+use Rattle.certain_answers.specs.declared.answer_list.Answers.{Answers}
 use Rattle.log_assembly.specs.declared.asked.AskedEvent.{AskedEvent}
 use Rattle.log_assembly.specs.declared.asked.Asked.{Asked}
 use Rattle.log_assembly.specs.Answered.{AreAnswersOf, AreAsked, InOrder, IsEventAsked, IsEventInOrder, IsInOrder, query_of}

@@ -9,7 +9,7 @@ use Rattle.vocabulary.specs.declared.term.Term.{Term, New', Named, Value}
 use Rattle.vocabulary.specs.Lists.{In, here, there, IsListOf, Pairwise}
 use Rattle.vocabulary.proofs.Lists.{In-append_left, In-append_right, In-append_cases, In-filter_map, from_filter_map}
 use Rattle.queries.specs.Order.{term_cmp}
-use Rattle.certain_answers.specs.declared.answers.Answers.{Answers}
+use Rattle.certain_answers.specs.declared.answer_list.Answers.{Answers}
 use Rattle.annotation_language.specs.declared.notes.Rule.{Rule}
 use Rattle.annotation_language.specs.declared.notes.Rule.TheVariants.{Mandatory, Single, Many}
 use Rattle.annotation_language.specs.declared.notes.KeySource.{KeySource}

@@ -1,3 +1,4 @@
+pub mod Asks
 mod Homes
 mod InOrder
 mod Judging

@@ -1,11 +1,13 @@
 -- What annotations ask, and which answers are those that they ask for.
-use Rattle.std.specs.Prelude.{List, ◌∷◌, ◌++◌, Option, Some, None, option_to_list, filter_map}
+use Rattle.std.specs.Prelude.{◌≡◌, List, ◌∷◌, ◌++◌, Option, Some, None, option_to_list, filter_map}
 use Rattle.std.specs.List.{flat_map, All}
 use Rattle.std.specs.List.Sorted.{IsStrictlySortedBy}
 use Rattle.vocabulary.specs.Lists.{In, IsListOf, Pairwise}
+use Rattle.dllite_axioms.specs.declared.axioms.Axiom.{Axiom}
 use Rattle.queries.specs.declared.query.Query.{Query}
 use Rattle.queries.specs.Order.{tuple_cmp}
-use Rattle.certain_answers.specs.declared.answers.Answers.{Answers}
+use Rattle.perfect_rewriting.specs.Rewriting.{IsTooWide}
+use Rattle.certain_answers.specs.declared.answer_list.Answers.{Answers}
 use Rattle.annotation_language.specs.declared.notes.KeySource.{KeySource}
 use Rattle.annotation_language.specs.declared.notes.KeySource.TheVariants.{Fixed, Asked as OfQuery}
 use Rattle.annotation_language.specs.declared.notes.KeyNote.{KeyNote}
@@ -31,6 +33,25 @@ asked_queries notes = option_to_list notes.case_query ++ option_to_list notes.ca
 -- the annotations ask this query
 abbrev pub Asks : Annotations → Query → Type 0
 Asks notes query = In query (asked_queries notes)
+
+-- a query that the annotations ask is too wide to be rewritten
+abbrev pub AsksTooWide : List Axiom → Annotations → Type 0
+AsksTooWide axioms notes = (query : Query) × Asks notes query × IsTooWide axioms query
+
+-- the query is there, and too wide
+abbrev pub MayBeTooWide : List Axiom → Option Query → Type 0
+MayBeTooWide axioms o = (query : Query) × (o ≡ Some query) × IsTooWide axioms query
+
+-- one item of the list is so
+abbrev pub HasOne : {X : Type 0} → (X → Type 0) → List X → Type 0
+HasOne {X} P xs = (x : X) × In x xs × P x
+
+-- the query of a key, or one of an event, is too wide
+abbrev pub KeyIsTooWide : List Axiom → KeyNote → Type 0
+KeyIsTooWide axioms key = MayBeTooWide axioms (query_of key.source)
+
+abbrev pub EventIsTooWide : List Axiom → EventNote → Type 0
+EventIsTooWide axioms event = HasOne (IsTooWide axioms) (event_queries event)
 
 module _ (certain : Certain) where
   -- all answers of a query, in order and each once; where there is no query there is no answer

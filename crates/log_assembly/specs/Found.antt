@@ -6,7 +6,7 @@ use Rattle.std.specs.declared.cmp.Ordering.TheVariants.{Less}
 use Rattle.std.specs.Ordering.{is_eq}
 use Rattle.vocabulary.specs.declared.term.Term.{Term, New', Named, Value}
 use Rattle.queries.specs.Order.{term_cmp}
-use Rattle.certain_answers.specs.declared.answers.Answers.{Answers}
+use Rattle.certain_answers.specs.declared.answer_list.Answers.{Answers}
 use Rattle.annotation_language.specs.declared.notes.KeySource.{KeySource}
 use Rattle.annotation_language.specs.declared.notes.KeySource.TheVariants.{Fixed, Asked as OfQuery}
 use Rattle.annotation_language.specs.declared.notes.KeyNote.{KeyNote}

@@ -2,6 +2,7 @@
 #![tactic(auto)]
 
 mod asked;
+mod asking;
 mod attributes;
 mod entries;
 pub mod laws;
@@ -14,6 +15,7 @@ mod traces;
 mod verdict;
 
 pub use asked::{Asked, AskedEvent};
+pub use asking::ask;
 pub use reporting::report;
 pub use traces::assemble;
 pub use verdict::{Judgement, Verdict, Why};

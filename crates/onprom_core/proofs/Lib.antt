@@ -1,3 +1,5 @@
 mod Ends
+mod Extracting
 mod Walks
-mod ProjectSamples
+mod PrintedSamples
+mod Headlines

@@ -8,7 +8,12 @@ use Rattle.onprom_core.specs.declared.status.Status.{Status}
 use Rattle.onprom_core.specs.declared.status.Status.TheVariants as status
 use Rattle.onprom_core.specs.Causes.{IsWhole, NamesFault}
 use Rattle.onprom_core.specs.Lines.{fault_line}
-use Rattle.onprom_core.specs.Walk.{Ending, Files, Job, IsFirstEnd, walk}
+use Rattle.onprom_core.specs.Jobs.{Ending, IsEnd, IsJobEnd}
+use Rattle.onprom_core.specs.Walk.{Files, Job, walk}
+
+-- the first end for these words and files
+abbrev pub IsFirstEnd : List (List ℕ) → Files → Ending → Type 0
+IsFirstEnd words files e = IsEnd (walk words files).end e
 
 -- all of it, a front of its text, or its text and a front of its report
 pub record Delivers (e : Ending) (out out' report report' : Option (List ℕ)) (result : Status) : Type 0 where
@@ -73,11 +78,15 @@ KeepsOut status.ReadFault old new = Keeps old new
 KeepsOut status.Limit old new = Keeps old new
 KeepsOut status.NotAccepted old new = Keeps old new
 
--- where the walk comes to its job and no count of faults rises, the job is done, unless memory is short
+-- the job ends with this status
+abbrev pub EndsJob : Job → Status → Type 0
+EndsJob job result = (e : Ending) × IsJobEnd job e × (result ≡ e.status)
+
+-- where the walk comes to its job and no count of faults rises, the job comes to its end, unless memory is short
 abbrev pub Completes : Result Job Stopped → (faults faults' written written' reported reported' : ℕ) → Status → Type 0
 Completes (Err stopped) faults faults' written written' reported reported' result = Unit {0}
 Completes (Ok job) faults faults' written written' reported reported' result =
-    (Rose faults faults' → ⊥) → (Rose written written' → ⊥) → (Rose reported reported' → ⊥) → (result ≡ status.Done) ⊎ (result ≡ status.NoMemory)
+    (Rose faults faults' → ⊥) → (Rose written written' → ⊥) → (Rose reported reported' → ⊥) → EndsJob job result ⊎ (result ≡ status.NoMemory)
 
 -- Usage, unless the report fails or memory is short
 abbrev pub AnswersNoCommand : Status → Type 0

@@ -1,10 +1,13 @@
 pub mod Codes
+pub mod Commands
 pub mod Lines
 pub mod Steps
 pub mod Walk
+pub mod Printed
+pub mod Jobs
+pub mod Headline
+pub mod Extracted
 pub mod Causes
 pub mod Delivery
 pub mod Shown
 pub mod Outputs
-pub mod Project
-pub mod Printed

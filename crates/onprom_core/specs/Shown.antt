@@ -1,5 +1,5 @@
 -- What is decided, as an ending.
-use Rattle.onprom_core.specs.Walk.{Ending}
+use Rattle.onprom_core.specs.Jobs.{Ending}
 use Rattle.onprom_core.specs.declared.deciding.Decided.{Decided}
 
 abbrev pub shown : Decided → Ending

@@ -1,93 +1,200 @@
--- How a run goes where the shelf tells its files and nothing fails: step by step to its first end.
-use Rattle.std.specs.Prelude.{◌≡◌, ℕ, List, [], ◌∷◌, length, nat_lt, codes, Option, Some, None, Result, Ok, Err, if◌then◌else◌}
-use Rattle.std.specs.Str.{bytes_eq}
+-- How a run goes where the shelf tells its files and nothing fails: step by step to its first end or to its job.
+use Rattle.std.specs.Prelude.{◌≡◌, ℕ, ◌+◌, List, [], ◌∷◌, length, nat_lt, codes, map, Option, Some, None, Result, Ok, Err, if◌then◌else◌}
+use Rattle.std.specs.Str.{is_utf8}
 use Rattle.outside.specs.Files.{bytes_of}
-use Rattle.first_form.specs.Project.{Form, form_of}
-use Rattle.first_form.specs.Rows.{Row, all_rows, row_limit}
-use Rattle.first_form.specs.Texts.{IsExtracted}
+use Rattle.line_lexer.specs.Faults.{kind_of, limit_of, name_of}
+use Rattle.line_lexer.specs.declared.fault.Counted.TheVariants.{File, TablesTogether, Rows, Steps}
+use Rattle.line_lexer.specs.declared.fault.LineFault.TheVariants.{NoCase, NoCases, NoTime, NoActivity}
+use Rattle.source_tables.specs.declared.decl.TableDecl.{TableDecl}
+use Rattle.source_tables.specs.declared.fault.TableFault.{TableFault}
+use Rattle.source_tables.specs.declared.fault.TableFault.TheVariants as table_fault
+use Rattle.source_tables.specs.Tables.{Loaded, table_of}
+use Rattle.queries.specs.declared.query.Query.{Query}
+use Rattle.annotation_language.specs.Complete.{Lack, Case, Cases, Time, Activity, lack_of}
+use Rattle.annotation_language.specs.Named.{query_named}
+use Rattle.conflict_checker.specs.declared.derivation.Derivation.{Derivation}
+use Rattle.derivation_text.specs.declared.fault.DerivationFault.{DerivationFault}
+use Rattle.derivation_text.specs.declared.fault.DerivationFault.TheVariants as text_fault
+use Rattle.derivation_text.specs.Reading.{derivations_of}
+use Rattle.project_language.specs.declared.fault.ProjectFault.{ProjectFault}
+use Rattle.project_language.specs.declared.fault.ProjectFault.TheVariants.{NotUtf8, Line, Limit, NoMemory}
+use Rattle.project_language.specs.declared.project.Project.{Project}
+use Rattle.project_language.specs.Project.{bad_line, read_project}
 use Rattle.onprom_core.specs.declared.status.Status.{Status}
 use Rattle.onprom_core.specs.declared.status.Status.TheVariants as status
-use Rattle.onprom_core.specs.Steps.{Step, goes, stops, ◌>>=◌}
 use Rattle.onprom_core.specs.declared.halt.Stopped.{Stopped}
-use Rattle.onprom_core.specs.Lines.{usage_line, absent_line, line_not_built, table_not_built, limit_line}
+use Rattle.onprom_core.specs.Commands.{Command, Extract, Check, Verify, Answer, Rewrite, Make, command_of, is_built}
+use Rattle.onprom_core.specs.Lines.{usage_line, absent_line, limit_line, line_refused, query_refused, table_refused}
+use Rattle.onprom_core.specs.Steps.{Step, goes, stops, ◌>>=◌}
 
 abbrev pub Files : Type 0
 Files = List (List ℕ × List ℕ)
 
-abbrev pub file_limit : ℕ
-file_limit = 67108864
-
 abbrev pub stop : {A : Type 0} → Status → List ℕ → Step A
 stop s l = stops (record { status = s; line = l })
 
--- the project that the words `extract P` name
-abbrev pub command_step : List (List ℕ) → Step (List ℕ)
-command_step (word ∷ name ∷ []) = if bytes_eq word (codes "extract") then goes name else stop status.Usage usage_line
-command_step words = stop status.Usage usage_line
+abbrev pub stop_usage : Step Command
+stop_usage = stop status.Usage usage_line
+
+-- a command that is built
+abbrev pub built_step : Option Command → Step Command
+built_step None = stop_usage
+built_step (Some command) = if is_built command then goes command else stop_usage
+
+-- the command that the words name
+abbrev pub command_step : List (List ℕ) → Step Command
+command_step words = built_step (command_of words)
 
 -- a file as it was read
 abbrev pub held_step : List ℕ → Option (List ℕ) → Step (List ℕ)
 held_step name None = stop status.Absent (absent_line name)
-held_step name (Some bytes) = if nat_lt file_limit (length bytes) then stop status.Limit (limit_line (codes "file")) else goes bytes
+held_step name (Some bytes) = if nat_lt (limit_of File) (length bytes) then stop status.Limit (limit_line (name_of File)) else goes bytes
 
 abbrev pub file_step : Files → List ℕ → Step (List ℕ)
 file_step files name = record { begun = name ∷ []; end = (held_step name (bytes_of files name)).end }
 
--- the form of the project, or its first line that differs
-abbrev pub formed : List ℕ → Result Form ℕ → Step Form
-formed project (Ok form) = goes form
-formed project (Err line) = stop status.Refused (line_not_built project line)
+-- the project of a text, or its first fault
+abbrev pub read_step : List ℕ → Result Project ProjectFault → Step Project
+read_step p (Ok project) = goes project
+read_step p (Err (NotUtf8 line)) = stop status.Refused (line_refused p line (codes "NotUtf8"))
+read_step p (Err (Line line kind)) = stop status.Refused (line_refused p line (kind_of kind))
+read_step p (Err (Limit what)) = stop status.Limit (limit_line (name_of what))
+read_step p (Err NoMemory) = stop status.NoMemory []
 
-abbrev pub form_step : List ℕ → List ℕ → Step Form
-form_step project text = formed project (form_of text)
+abbrev pub project_step : Files → List ℕ → Step Project
+project_step files p = do
+  bytes ← file_step files p
+  read_step p (read_project bytes)
 
--- the rows of the table
-abbrev pub counted : List ℕ → Option (List Row) → Step (List Row)
-counted file None = stop status.Refused (table_not_built file)
-counted file (Some rows) = if nat_lt row_limit (length rows) then stop status.Limit (limit_line (codes "rows")) else goes rows
+-- the annotations of the project lack nothing
+abbrev pub lack_step : List ℕ → Project → Option Lack → Step Project
+lack_step p project None = goes project
+lack_step p project (Some Case) = stop status.Refused (line_refused p 0 (kind_of NoCase))
+lack_step p project (Some (Cases line)) = stop status.Refused (line_refused p line (kind_of NoCases))
+lack_step p project (Some (Time line)) = stop status.Refused (line_refused p line (kind_of NoTime))
+lack_step p project (Some (Activity line)) = stop status.Refused (line_refused p line (kind_of NoActivity))
 
-abbrev pub rows_step : Form → List ℕ → Step (List Row)
-rows_step form bytes = counted form.source.file (all_rows form.source.id form.source.made bytes)
+abbrev pub complete_step : List ℕ → Project → Step Project
+complete_step p project = lack_step p project (lack_of project.noted.notes)
 
--- what a run has read when it comes to its job
-pub record Job : Type 0 where
-  pub form : Form
-  pub rows : List Row
+-- the query of a name
+abbrev pub found_step : List ℕ → Option Query → Step Query
+found_step name None = stop status.Refused (query_refused name)
+found_step name (Some query) = goes query
 
--- from the form on: its table is read
-unfoldable pub table_step : Files → Form → Step Job
-table_step files form = do
-  bytes ← file_step files form.source.file
-  rows ← rows_step form bytes
-  goes (record { form = form; rows = rows })
+abbrev pub query_step : Project → List ℕ → Step Query
+query_step project name = found_step name (query_named project.noted.notes name)
+
+-- the tables so far have so many bytes together
+abbrev pub together_step : ℕ → Step ℕ
+together_step total = if nat_lt (limit_of TablesTogether) total then stop status.Limit (limit_line (name_of TablesTogether)) else goes total
+
+-- a table as it was loaded
+abbrev pub loaded_step : TableDecl → Result Loaded TableFault → Step Loaded
+loaded_step decl (Ok table) = goes table
+loaded_step decl (Err table_fault.TooManyRows) = stop status.Limit (limit_line (name_of Rows))
+loaded_step decl (Err fault) = stop status.Refused (table_refused decl fault)
+
+abbrev pub table_step : TableDecl → List ℕ → Step Loaded
+table_step decl bytes = loaded_step decl (table_of decl bytes)
+
+-- a table, and how many bytes there are with it, behind tables that have so many together
+unfoldable pub one_table : Files → ℕ → TableDecl → Step (Loaded × ℕ)
+one_table files before decl = do
+  bytes ← file_step files decl.file
+  total ← together_step (before + length bytes)
+  table ← table_step decl bytes
+  goes (table, total)
+
+-- the tables in declared order: each is read, counted and loaded before the next is begun
+unfoldable pub tables_step : Files → ℕ → List TableDecl → Step (List Loaded)
+tables_step files before [] = goes []
+tables_step files before (decl ∷ decls) = do
+  read ← one_table files before decl
+  rest ← tables_step files read.1 decls
+  goes (read.0 ∷ rest)
+
+abbrev pub sources_step : Files → Project → Step (List Loaded)
+sources_step files project = tables_step files 0 project.sources.tables
+
+-- the derivations of a text, or its first fault
+abbrev pub spelled_step : List ℕ → Result (List Derivation) DerivationFault → Step (List Derivation)
+spelled_step d (Ok derivations) = goes derivations
+spelled_step d (Err (text_fault.Syntax line)) = stop status.Refused (line_refused d line (codes "Syntax"))
+spelled_step d (Err (text_fault.Unknown line)) = stop status.Refused (line_refused d line (codes "Unknown"))
+spelled_step d (Err (text_fault.BadStep line)) = stop status.Refused (line_refused d line (codes "BadStep"))
+spelled_step d (Err text_fault.TooLong) = stop status.Limit (limit_line (name_of Steps))
+spelled_step d (Err text_fault.NoMemory) = stop status.NoMemory []
+
+-- the names of the mappings
+abbrev pub mapping_names : Project → List (List ℕ)
+mapping_names project = map (λ m. m.name) project.sources.mappings
+
+abbrev pub spell_step : Project → List ℕ → List ℕ → Step (List Derivation)
+spell_step project d bytes =
+    if is_utf8 bytes then spelled_step d (derivations_of (mapping_names project) bytes)
+    else stop status.Refused (line_refused d (bad_line bytes) (codes "NotUtf8"))
+
+-- what a run has read when it comes to its job: for `rewrite`, the query with its name; a made project is read from nothing
+pub data Job : Type 0 where
+  Extracting : Project → List Loaded → Job
+  Checking : Project → List Loaded → Job
+  Verifying : Project → List Loaded → List Derivation → Job
+  Answering : Project → List Loaded → Query → Job
+  Rewriting : Project → List ℕ → Query → Job
+  Making : ℕ → List ℕ → Job
+
+-- `extract P`: the project, whose annotations lack nothing, and its tables
+unfoldable pub extract_step : Files → List ℕ → Step Job
+extract_step files p = do
+  project ← project_step files p
+  whole ← complete_step p project
+  tables ← sources_step files whole
+  goes (Extracting whole tables)
+
+unfoldable pub check_step : Files → List ℕ → Step Job
+check_step files p = do
+  project ← project_step files p
+  tables ← sources_step files project
+  goes (Checking project tables)
+
+-- the derivations are read behind the tables
+unfoldable pub verify_step : Files → List ℕ → List ℕ → Step Job
+verify_step files p d = do
+  project ← project_step files p
+  tables ← sources_step files project
+  bytes ← file_step files d
+  derivations ← spell_step project d bytes
+  goes (Verifying project tables derivations)
+
+-- the query is found before the tables are read
+unfoldable pub answer_step : Files → List ℕ → List ℕ → Step Job
+answer_step files p q = do
+  project ← project_step files p
+  query ← query_step project q
+  tables ← sources_step files project
+  goes (Answering project tables query)
+
+unfoldable pub rewrite_step : Files → List ℕ → List ℕ → Step Job
+rewrite_step files p q = do
+  project ← project_step files p
+  query ← query_step project q
+  goes (Rewriting project q query)
+
+-- what a command reads
+abbrev pub job_step : Files → Command → Step Job
+job_step files (Extract p) = extract_step files p
+job_step files (Check p) = check_step files p
+job_step files (Verify p d) = verify_step files p d
+job_step files (Answer p q) = answer_step files p q
+job_step files (Rewrite p q) = rewrite_step files p q
+job_step files (Make n f) = goes (Making n f)
 
 -- the walk up to the job
 unfoldable pub walk : List (List ℕ) → Files → Step Job
 walk words files = do
-  project ← command_step words
-  text ← file_step files project
-  form ← form_step project text
-  table_step files form
-
--- a status with what is written for it
-pub record Ending : Type 0 where
-  pub status : Status
-  pub out : List ℕ
-  pub report : List ℕ
-
--- the job's texts are written
-pub record IsDone (job : Job) (e : Ending) : Type 0 where
-  pub status : e.status ≡ status.Done
-  pub extracted : IsExtracted job.form job.rows e.out e.report
-
--- the ending of a walk
-abbrev pub IsEnd : Result Job Stopped → Ending → Type 0
-IsEnd (Ok job) e = IsDone job e
-IsEnd (Err stopped) e = e ≡ record { status = stopped.status; out = []; report = stopped.line }
-
--- the first end for these words and files
-abbrev pub IsFirstEnd : List (List ℕ) → Files → Ending → Type 0
-IsFirstEnd words files e = IsEnd (walk words files).end e
+  command ← command_step words
+  job_step files command
 
 -- the words match no line of the command table
 abbrev pub IsNoCommand : List (List ℕ) → Type 0

@@ -38,7 +38,7 @@ pub(crate) fn decide<S: Shelf>(
 {
     match work(alloc, words, shelf) {
         Ok(output) => Ok(Decided {
-            status: Status::Done,
+            status: output.status,
             text: output.text,
             line: output.report,
         }),

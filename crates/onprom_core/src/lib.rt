@@ -1,8 +1,11 @@
 //! The top call: words in, a status out, and what is written on the way.
 #![tactic(auto)]
 
+#[cfg(test)]
+mod conference;
 mod deciding;
 mod deliver;
+mod extraction;
 mod halt;
 mod lines;
 mod reading;

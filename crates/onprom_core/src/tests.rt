@@ -1,5 +1,5 @@
 //! The top call over files and sinks in memory. The texts are those of the first example.
-use crate::{Status, run};
+use crate::{Status, conference, run};
 use outside::{MemoryShelf, MemorySink, Shelf, Sink, SureShelf, SureSink, Words};
 use std::alloc::{AllocError, Global};
 use std::process::Abort;
@@ -130,82 +130,103 @@ left out: create <http://e/b>: several time:timestamp
 }
 
 #[test]
-fn refuses_with_the_first_line_that_differs(rt: HostRuntime) -> Result<(), Fail> {
+fn writes_the_log_of_the_conference(rt: HostRuntime) -> Result<(), Fail> {
+    let alloc = rt.alloc();
+    let files = [
+        ("conf.txt", conference::PROJECT),
+        ("paper.csv", conference::PAPER),
+        ("person.csv", conference::PERSON),
+        ("review.csv", conference::REVIEW),
+    ];
+    let mut shelf = shelf_of(&rt, alloc, &files)?;
+    let words = ["extract", "conf.txt"];
+    let log = conference::LOG;
+    check(
+        &rt,
+        alloc,
+        &words,
+        &mut shelf,
+        Status::Done,
+        log,
+        conference::REPORT,
+    )
+}
+
+#[test]
+fn refuses_with_the_first_fault_of_the_project(rt: HostRuntime) -> Result<(), Fail> {
     let alloc = rt.alloc();
     let cases = [
-        ("", "refused: p line 1: NotBuilt\n"),
-        ("onprom 1\n", "refused: p line 2: NotBuilt\n"),
+        ("", "refused: p line 1: Syntax\n"),
+        ("# none\n\nclass A\n", "refused: p line 3: Syntax\n"),
         (
-            "onprom 1\r\ntable t \"f\"\r\n",
-            "refused: p line 1: NotBuilt\n",
+            "onprom 1\r\nclass A\r\nclass A",
+            "refused: p line 3: Double\n",
         ),
         (
-            "onprom 1\ntable from \"f\"\n",
-            "refused: p line 2: NotBuilt\n",
+            "onprom 1\ncolumn t c text\n",
+            "refused: p line 2: Unknown\n",
         ),
         (
-            "onprom 1\ntable 9a \"f\"\n",
-            "refused: p line 2: NotBuilt\n",
-        ),
-        ("onprom 1\ntable t \"\"\n", "refused: p line 2: NotBuilt\n"),
-        (
-            "onprom 1\ntable t \"f\"\ncolumn t c text\ncolumn t c time\n",
-            "refused: p line 4: NotBuilt\n",
-        ),
-        (
-            "onprom 1\ntable t \"f\"\ncolumn u c text\n",
+            "onprom 1\nclass A\nattr A u int 0..1\n",
             "refused: p line 3: NotBuilt\n",
+        ),
+        ("onprom 1\nclass A\n", "refused: p line 0: NoCase\n"),
+        (
+            "onprom 1\nclass A\ncase v where A(v)\nevent e v where A(v)\n",
+            "refused: p line 4: NoCases\n",
         ),
     ];
     for (project, line) in cases {
         let mut shelf = shelf_of(&rt, alloc, &[("p", project)])?;
-        check(
-            &rt,
-            alloc,
-            &["extract", "p"],
-            &mut shelf,
-            Status::Refused,
-            "",
-            line,
-        )?;
+        let words = ["extract", "p"];
+        check(&rt, alloc, &words, &mut shelf, Status::Refused, "", line)?;
     }
     Ok(())
 }
 
 #[test]
-fn refuses_a_further_line_and_a_table_of_another_form(rt: HostRuntime) -> Result<(), Fail> {
+fn refuses_with_the_first_fault_of_a_table(rt: HostRuntime) -> Result<(), Fail> {
     let alloc = rt.alloc();
-    let longer = format!(in alloc; "{PROJECT}\n")?;
-    let mut shelf = shelf_of(&rt, alloc, &[("p", longer.as_str())])?;
+    let project = format!(in alloc; "{PROJECT}key doc (id)\n")?;
+    let cases = [
+        ("", "refused: doc.csv column id: Header\n"),
+        ("id,made\na,\nb\n", "refused: doc.csv row 2: Width\n"),
+        (
+            "id,made\nb,soon\n",
+            "refused: doc.csv row 1 column made: BadCell\n",
+        ),
+        ("made,id\n,\n", "refused: doc.csv row 1: NullKey\n"),
+        (
+            "id,made\na,\nb,\na,\n",
+            "refused: doc.csv rows 1 3: DoubleKey\n",
+        ),
+    ];
+    for (table, line) in cases {
+        let mut shelf = shelf_of(&rt, alloc, &[("p", project.as_str()), ("doc.csv", table)])?;
+        let words = ["extract", "p"];
+        check(&rt, alloc, &words, &mut shelf, Status::Refused, "", line)?;
+    }
+    Ok(())
+}
+
+#[test]
+fn names_a_limit_that_is_passed(rt: HostRuntime) -> Result<(), Fail> {
+    let alloc = rt.alloc();
+    let mut project = String::from_str(alloc, "onprom 1")?;
+    for _ in 0..20_000 {
+        project.push_str("\nclass A")?;
+    }
+    let mut shelf = shelf_of(&rt, alloc, &[("p", project.as_str())])?;
+    let words = ["extract", "p"];
     check(
         &rt,
         alloc,
-        &["extract", "p"],
+        &words,
         &mut shelf,
-        Status::Refused,
+        Status::Limit,
         "",
-        "refused: p line 13: NotBuilt\n",
-    )?;
-    let line = "refused: doc.csv: NotBuilt\n";
-    for table in [
-        "",
-        "id;made\n",
-        "id,made\nb\n",
-        "id,made\nb,2024-01-31T00:00:00.000+00:00\n",
-        "id,made\n\n",
-    ] {
-        let mut shelf = shelf_of(&rt, alloc, &[("p", PROJECT), ("doc.csv", table)])?;
-        check(
-            &rt,
-            alloc,
-            &["extract", "p"],
-            &mut shelf,
-            Status::Refused,
-            "",
-            line,
-        )?;
-    }
-    Ok(())
+        "limit: lines\n",
+    )
 }
 
 #[test]

@@ -4,6 +4,7 @@ ghost use Rattle.std.specs.Io.KnownBytes.{Appends, Keeps};
 ghost use Rattle.outside.specs.Counts.{Rose};
 ghost use Rattle.onprom_core.specs.Causes.{IsWhole};
 ghost use Rattle.onprom_core.specs.Delivery.{EndsAs, EndsWithin, EndsReporting, EndsEarly, ReportsFault, NamesFile, KeepsOut, Completes, AnswersNoCommand};
+ghost use Rattle.onprom_core.specs.Headline.{Extracts, IsQuiet};
 ghost use Rattle.onprom_core.specs.Lines.{absent_line, fault_line, usage_line};
 ghost use Rattle.onprom_core.specs.Walk.{walk, IsNoCommand};
 
@@ -25,6 +26,10 @@ pub fn run<S: Shelf, O: Sink, R: Sink>(
     out: &mut O,
     report: &mut R,
 ) -> Status
+    // The promise of `extract`: the one log of an accepted project, or what contradicts it.
+    ensures headline { IfSome (S.held shelf.old) (λ files. Extracts words.now files
+        (IsQuiet (S.faults shelf.old) (S.faults shelf.new) (O.faults out.old) (O.faults out.new) (R.faults report.old) (R.faults report.new))
+        (O.written out.old) (O.written out.new) (R.written report.old) (R.written report.new) result) }
     // Where no call failed and memory sufficed, the first end of the walk was written.
     ensures ends { IfSome (S.held shelf.old) (λ files. result ≢ Status.ReadFault → IsWhole result →
         EndsAs words.now files (O.written out.old) (O.written out.new) (R.written report.old) (R.written report.new) result) }

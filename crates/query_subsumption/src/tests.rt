@@ -121,3 +121,45 @@ fn of_two_alike_the_later_goes(rt: HostRuntime) -> Result<(), AllocError> {
     assert!(rt; kept.items()[0].compare(&first).is_eq());
     Ok(())
 }
+
+fn reviews(alloc: Global) -> Result<Query, AllocError> {
+    let atoms = vec![in alloc; of_class(0, Arg::Var(VarId(0)))]?;
+    asking(alloc, 0, atoms)
+}
+
+fn about_something(alloc: Global) -> Result<Query, AllocError> {
+    let atoms = vec![in alloc; about(Arg::Blank)]?;
+    asking(alloc, 0, atoms)
+}
+
+// What is about some y, of which the other atom speaks too.
+fn about_what_is(alloc: Global, other: Atom) -> Result<Query, AllocError> {
+    let atoms = vec![in alloc; other, about(Arg::Var(VarId(1)))]?;
+    asking(alloc, 0, atoms)
+}
+
+// All that the question `(x) where about(x, y), Paper(y)` is rewritten to, where each review is about some paper.
+fn rewritten(alloc: Global) -> Result<Vec<Query>, AllocError> {
+    let y = Arg::Var(VarId(1));
+    let something = Atom::Linked(LinkId(0), Arg::Blank, Arg::Var(VarId(1)));
+    let mut all = Vec::new(alloc);
+    all.push(reviews(alloc)?)?;
+    all.push(about_something(alloc)?)?;
+    all.push(about_what_is(alloc, of_class(1, y))?)?;
+    all.push(about_what_is(alloc, something)?)?;
+    Ok(all)
+}
+
+// `(x) where Review(x)` and `(x) where about(x, _)` stand for all four.
+#[test]
+fn two_of_a_rewriting_are_kept(rt: HostRuntime) -> Result<(), AllocError> {
+    let alloc = rt.alloc();
+    let all = rewritten(alloc)?;
+    let first = reviews(alloc)?;
+    let second = about_something(alloc)?;
+    let kept = drop_subsumed(alloc, List::from_vec(all))?;
+    assert!(rt; kept.len() == 2);
+    assert!(rt; kept.items()[0].compare(&first).is_eq());
+    assert!(rt; kept.items()[1].compare(&second).is_eq());
+    Ok(())
+}

@@ -1,5 +1,5 @@
 use Rattle.std.proofs.Common.{◌∙◌, ap, [], ◌∷◌, ◌++◌, ◌≤◌, ◌⊎◌, inl, inr, length, map, arith}
-use Rattle.certain_answers.specs.declared.answers.Answers.{Answers}
+use Rattle.certain_answers.specs.declared.answer_list.Answers.{Answers}
 use Rattle.annotation_language.specs.declared.notes.KeyNote.{KeyNote}
 use Rattle.log_assembly.specs.declared.attributes.Attribute.{Attribute}
 use Rattle.log_assembly.specs.Found.{attribute_of}

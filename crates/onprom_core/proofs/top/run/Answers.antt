@@ -1,10 +1,11 @@
 use Rattle.onprom_core.specs.Shown.{shown}
-use Rattle.onprom_core.proofs.Ends.{headline_from, written_from, reporting_from, early_from, faulted_from, complete_from}
+use Rattle.onprom_core.proofs.Ends.{ends_from, written_from, reporting_from, early_from, faulted_from, complete_from}
+use Rattle.onprom_core.proofs.Headlines.{extracts_from}
 use Rattle.onprom_core.proofs.top.run.Goals as goal
 
 pub returns-in-Ok-clause-ends : goal.returns-in-Ok-clause-ends
 returns-in-Ok-clause-ends g c =
-    headline_from c.args.words.now (g.S.Shelf.held c.args.shelf.now) (g.S.Shelf.faults c.args.shelf.now) (g.S.Shelf.faults c.decide.new.shelf) (shown c.in-Ok.decided)
+    ends_from c.args.words.now (g.S.Shelf.held c.args.shelf.now) (g.S.Shelf.faults c.args.shelf.now) (g.S.Shelf.faults c.decide.new.shelf) (shown c.in-Ok.decided)
     (g.O.Sink.written c.args.out.now) (g.O.Sink.written c.deliver.new.out) (g.R.Sink.written c.args.report.now) (g.R.Sink.written c.deliver.new.report)
     c.deliver.result c.in-Ok.ensures.decided c.deliver.ensures.delivered
 
@@ -40,3 +41,10 @@ returns-in-Ok-clause-complete g c =
     (g.S.Shelf.absences c.args.shelf.now) (g.S.Shelf.absences c.decide.new.shelf)
     (g.O.Sink.faults c.args.out.now) (g.O.Sink.faults c.deliver.new.out) (g.R.Sink.faults c.args.report.now) (g.R.Sink.faults c.deliver.new.report)
     c.in-Ok.ensures.counts c.deliver.ensures.write c.deliver.ensures.report
+
+pub returns-in-Ok-clause-headline : goal.returns-in-Ok-clause-headline
+returns-in-Ok-clause-headline g c =
+    extracts_from c.args.words.now (g.S.Shelf.faults c.args.shelf.now) (g.S.Shelf.faults c.decide.new.shelf)
+    (g.O.Sink.faults c.args.out.now) (g.O.Sink.faults c.deliver.new.out) (g.R.Sink.faults c.args.report.now) (g.R.Sink.faults c.deliver.new.report)
+    (g.O.Sink.written c.args.out.now) (g.O.Sink.written c.deliver.new.out) (g.R.Sink.written c.args.report.now) (g.R.Sink.written c.deliver.new.report)
+    c.deliver.result (g.S.Shelf.held c.args.shelf.now) (returns-in-Ok-clause-ends g c) (returns-in-Ok-clause-complete g c)

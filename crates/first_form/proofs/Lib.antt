@@ -1,5 +1,0 @@
-mod Afters
-mod Cuts
-mod Gathers
-mod Listing
-mod Noting

@@ -1,0 +1,118 @@
+-- What a run of `extract` writes for an accepted project.
+use Rattle.std.proofs.Common.{◌≡◌, ◌≢◌, refl, sym, subst, ap, arith, ◌∙◌, List, ℕ, [], ◌∷◌, ◌+◌, ◌≤◌, nat_lt, false, codes, length, Option, None, Some, IfSome, Result, Ok, Err, ◌⊎◌, inl, inr}
+use Rattle.std.specs.Io.KnownBytes.{Appends, Keeps}
+use Rattle.std.proofs.lemmas.List.{append-nil}
+use Rattle.line_lexer.specs.Faults.{limit_of}
+use Rattle.line_lexer.specs.declared.fault.Counted.TheVariants.{File, TablesTogether}
+use Rattle.source_tables.specs.declared.decl.TableDecl.{TableDecl}
+use Rattle.source_tables.specs.Tables.{Loaded, table_of}
+use Rattle.project_language.specs.declared.project.Project.{Project}
+use Rattle.onprom_core.specs.declared.status.Status.{Status}
+use Rattle.onprom_core.specs.declared.status.Status.TheVariants as status
+use Rattle.onprom_core.specs.Causes.{IsWhole}
+use Rattle.onprom_core.specs.Commands.{Extract}
+use Rattle.onprom_core.specs.Delivery.{EndsAs, EndsJob, Completes}
+use Rattle.onprom_core.specs.Headline.{AreTables, Extracts, IsAccepted, IsHeld, IsQuiet, ReportsContradictions, TellsWidth, WritesLog}
+use Rattle.onprom_core.specs.Jobs.{Agrees, EndsExtraction, Ending, IsEnd, IsWide, extracted, too_wide, contradicted}
+use Rattle.onprom_core.specs.Steps.{Step, ◌>>=◌}
+use Rattle.onprom_core.specs.Walk.{Files, Extracting, command_step, complete_step, extract_step, file_step, job_step, one_table, project_step, sources_step, tables_step, walk}
+
+not_past : (limit n : ℕ) → n ≤ limit → nat_lt limit n ≡ false
+not_past limit n within = grind arith
+
+onward : {A B : Type 0} (m : Step A) (f : A → Step B) (v : A) (w : B) → m.end ≡ Ok v → (f v).end ≡ Ok w → (m >>= f).end ≡ Ok w
+onward m f v w first second = rw first second
+
+file_held : (files : Files) (name bytes : List ℕ) → IsHeld files name bytes → (file_step files name).end ≡ Ok bytes
+file_held files name bytes h = rw h.0 (rw (not_past (limit_of File) (length bytes) h.1) refl)
+
+-- a table of an accepted project is read, counted and loaded
+table_read : (files : Files) (before : ℕ) (decl : TableDecl) (table : Loaded) (bytes : List ℕ) → IsHeld files decl.file bytes → before + length bytes ≤ limit_of TablesTogether → table_of decl bytes ≡ Ok table
+    → (one_table files before decl).end ≡ Ok (table, before + length bytes)
+unfolding one_table
+table_read files before decl table bytes held within loaded =
+    onward (file_step files decl.file) _ bytes _ (file_held files decl.file bytes held)
+    (rw (not_past (limit_of TablesTogether) (before + length bytes) within) (rw loaded refl))
+
+tables_read : (files : Files) (before : ℕ) (decls : List TableDecl) (tables : List Loaded) → AreTables files before decls tables → (tables_step files before decls).end ≡ Ok tables
+unfolding tables_step
+tables_read files before [] [] all = refl
+tables_read files before [] (table ∷ tables) all = absurd all
+tables_read files before (decl ∷ decls) [] all = absurd all
+tables_read files before (decl ∷ decls) (table ∷ tables) all =
+    onward (one_table files before decl) _ (table, before + length all.0) _ (table_read files before decl table all.0 all.1 all.2 all.3)
+    (onward (tables_step files (before + length all.0) decls) _ tables _ (tables_read files (before + length all.0) decls tables all.4) refl)
+
+-- the walk of an accepted project comes to its job
+pub walked : (files : Files) (p : List ℕ) (project : Project) (tables : List Loaded) → IsAccepted files p project tables → (walk (codes "extract" ∷ p ∷ []) files).end ≡ Ok (Extracting project tables)
+unfolding walk extract_step
+walked files p project tables a =
+    onward (command_step (codes "extract" ∷ p ∷ [])) (job_step files) (Extract p) _ refl
+    (onward (project_step files p) _ project _ (onward (file_step files p) _ a.bytes _ (file_held files p a.bytes a.held) (rw a.read refl))
+    (onward (complete_step p project) _ project _ (rw a.complete refl)
+    (onward (sources_step files project) _ tables _ (tables_read files 0 project.sources.tables tables a.loaded) refl)))
+
+-- no extraction ends with a failed call
+whole : (project : Project) (tables : List Loaded) (e : Ending) (r : Status) → EndsExtraction project tables e → r ≡ e.status → IsWhole r × (r ≢ status.ReadFault)
+whole project tables e r (extracted agrees narrow done texts) same = rw (same ∙ done) (record { written = λ x. cc; reported = λ x. cc; memory = λ x. cc }, λ x. cc)
+whole project tables e r (too_wide agrees wide is) same = rw (same ∙ ap (λ e. e.status) is) (record { written = λ x. cc; reported = λ x. cc; memory = λ x. cc }, λ x. cc)
+whole project tables e r (contradicted clash ds are is) same = rw (same ∙ ap (λ e. e.status) is) (record { written = λ x. cc; reported = λ x. cc; memory = λ x. cc }, λ x. cc)
+
+Keeps-of : (a b : Option (List ℕ)) → Appends a b [] → Keeps a b
+Keeps-of None b is = tt
+Keeps-of (Some x) None is = absurd is
+Keeps-of (Some x) (Some y) is = is ∙ append-nil x
+
+module _ (project : Project) (tables : List Loaded) (out out' report report' : Option (List ℕ)) (r : Status) (e : Ending) (same : r ≡ e.status) (written : Appends out out' e.out) (reported : Appends report report' e.report) where
+  log_written : EndsExtraction project tables e → Agrees project tables → (IsWide project → ⊥) → WritesLog project tables out out' report report' r
+  log_written (extracted agrees narrow done texts) is free = record {
+    done = same ∙ done;
+    log = texts.log;
+    the_log = texts.the_log;
+    written = subst (Appends out out') texts.text written;
+    said = e.report;
+    the_report = texts.reported;
+    reported = reported }
+  log_written (too_wide agrees wide is) agreed free = absurd (free wide)
+  log_written (contradicted clash ds are is) agreed free = absurd (clash agreed)
+
+  width_told : EndsExtraction project tables e → Agrees project tables → IsWide project → TellsWidth out out' report report' r
+  width_told (extracted agrees narrow done texts) agreed wide = absurd (narrow wide)
+  width_told (too_wide agrees wide is) agreed other = record {
+    limit = same ∙ ap (λ e. e.status) is;
+    unwritten = Keeps-of out out' (subst (Appends out out') (ap (λ e. e.out) is) written);
+    reported = subst (Appends report report') (ap (λ e. e.report) is) reported }
+  width_told (contradicted clash ds are is) agreed wide = absurd (clash agreed)
+
+  contradictions_reported : EndsExtraction project tables e → (Agrees project tables → ⊥) → ReportsContradictions project tables out out' report report' r
+  contradictions_reported (extracted agrees narrow done texts) clash = absurd (clash agrees)
+  contradictions_reported (too_wide agrees wide is) clash = absurd (clash agrees)
+  contradictions_reported (contradicted other ds are is) clash = record {
+    conflict = same ∙ ap (λ e. e.status) is;
+    unwritten = Keeps-of out out' (subst (Appends out out') (ap (λ e. e.out) is) written);
+    derivations = ds;
+    accepted = are;
+    reported = subst (Appends report report') (ap (λ e. e.report) is) reported }
+
+module _ (words : List (List ℕ)) (faults faults' written written' reported reported' : ℕ) (out out' report report' : Option (List ℕ)) (r : Status) where
+  -- over files that are known
+  extracts : (files : Files) → (r ≢ status.ReadFault → IsWhole r → EndsAs words files out out' report report' r) → Completes (walk words files).end faults faults' written written' reported reported' r
+      → Extracts words files (IsQuiet faults faults' written written' reported reported') out out' report report' r
+  extracts files ends complete p project tables named a quiet memory = by (rw (named, walked files p project tables a) at complete quiet.read quiet.wrote quiet.told)
+    where
+      by : EndsJob (Extracting project tables) r ⊎ (r ≡ status.NoMemory)
+          → (Agrees project tables → (IsWide project → ⊥) → WritesLog project tables out out' report report' r) × (Agrees project tables → IsWide project → TellsWidth out out' report report' r) × ((Agrees project tables → ⊥) → ReportsContradictions project tables out out' report report' r)
+      by (inr short) = absurd (memory short)
+      by (inl job) =
+          let free = whole project tables job.0 r job.1 job.2 in
+          let told = ends free.1 free.0 in
+          let end : EndsExtraction project tables told.ending = rw (named, walked files p project tables a) at told.first in
+          (log_written project tables out out' report report' r told.ending told.status told.out told.report end,
+           width_told project tables out out' report report' r told.ending told.status told.out told.report end,
+           contradictions_reported project tables out out' report report' r told.ending told.status told.out told.report end)
+
+  pub extracts_from : (held : Option Files) → IfSome held (λ files. r ≢ status.ReadFault → IsWhole r → EndsAs words files out out' report report' r)
+      → IfSome held (λ files. Completes (walk words files).end faults faults' written written' reported reported' r)
+      → IfSome held (λ files. Extracts words files (IsQuiet faults faults' written written' reported reported') out out' report report' r)
+  extracts_from None ends complete = tt
+  extracts_from (Some files) ends complete = extracts files ends complete

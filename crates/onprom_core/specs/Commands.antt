@@ -1,0 +1,58 @@
+-- The table of commands: what words name, and which commands are built.
+use Rattle.std.specs.Prelude.{ℕ, ◌+◌, ◌*◌, ◌-◌, ◌&&◌, nat_lt, nat_le, Bool, true, false, List, [], ◌∷◌, Option, Some, None, if◌then◌else◌, codes, decimal}
+use Rattle.std.specs.List.{list_any}
+use Rattle.std.specs.Str.{bytes_eq}
+
+-- a command with its file names, the name of its query, or the number of documents and the name of a made file
+pub data Command : Type 0 where
+  Extract : List ℕ → Command
+  Check : List ℕ → Command
+  Verify : List ℕ → List ℕ → Command
+  Answer : List ℕ → List ℕ → Command
+  Rewrite : List ℕ → List ℕ → Command
+  Make : ℕ → List ℕ → Command
+
+-- the number that a text writes, where it is one in decimal
+abbrev pub value_behind : ℕ → List ℕ → ℕ
+value_behind n [] = n
+value_behind n (digit ∷ digits) = value_behind (n * 10 + (digit - 48)) digits
+
+-- the text is the decimal form, without a leading zero, of a number from 1 to 100,000
+abbrev pub is_count : List ℕ → Bool
+is_count text = bytes_eq (decimal (value_behind 0 text)) text && nat_lt 0 (value_behind 0 text) && nat_le (value_behind 0 text) 100_000
+
+-- the files of a made project, and what is said of its log
+abbrev pub is_made : List ℕ → Bool
+is_made name = list_any (bytes_eq name) (codes "project.txt" ∷ codes "doc.csv" ∷ codes "step.csv" ∷ codes "summary" ∷ [])
+
+abbrev pub one_file : List ℕ → List ℕ → Option Command
+one_file word p =
+    if bytes_eq word (codes "extract") then Some (Extract p)
+    else (if bytes_eq word (codes "check") then Some (Check p) else None)
+
+abbrev pub file_and_name : List ℕ → List ℕ → List ℕ → Option Command
+file_and_name word p q =
+    if bytes_eq word (codes "verify") then Some (Verify p q)
+    else (if bytes_eq word (codes "answer") then Some (Answer p q)
+    else (if bytes_eq word (codes "rewrite") then Some (Rewrite p q)
+    else (if bytes_eq word (codes "make") && is_count p && is_made q then Some (Make (value_behind 0 p) q) else None)))
+
+-- the command that words name, if they match a line of the table
+abbrev pub command_of : List (List ℕ) → Option Command
+command_of (word ∷ p ∷ []) = one_file word p
+command_of (word ∷ p ∷ q ∷ []) = file_and_name word p q
+command_of words = None
+
+-- the commands that are built; a line of the table that is not built counts as none, and this goes out when all are
+abbrev pub is_built : Command → Bool
+is_built (Extract p) = true
+is_built (Check p) = false
+is_built (Verify p d) = false
+is_built (Answer p q) = false
+is_built (Rewrite p q) = false
+is_built (Make n f) = false
+
+-- the words are `extract` and one more
+abbrev pub is_extract : List (List ℕ) → Bool
+is_extract (word ∷ p ∷ []) = bytes_eq word (codes "extract")
+is_extract words = false
