@@ -2,3 +2,4 @@ pub mod Certain
 pub mod Gained
 pub mod InOrder
 pub mod Known
+mod Queries

@@ -1,5 +1,5 @@
 -- How answers and queries are printed, computed.
-use Rattle.std.proofs.Common.{◌≡◌, refl, ℕ, List, [], ◌∷◌, codes, map}
+use Rattle.std.proofs.Common.{◌≡◌, refl, ℕ, [], ◌∷◌, codes, map}
 use Rattle.vocabulary.specs.declared.ids.ValueKind.TheVariants.{Text}
 use Rattle.vocabulary.specs.declared.term.Term.{Named, Value}
 use Rattle.queries.specs.declared.query.Arg.{Arg}

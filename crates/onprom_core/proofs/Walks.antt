@@ -1,5 +1,5 @@
 -- A walk whose first steps went on does what its last steps do.
-use Rattle.std.proofs.Common.{◌≡◌, refl, sym, ◌∙◌, ap, ℕ, List, [], ◌∷◌, ◌++◌, Option, None, Some, IfSome, Result, Ok, Err, Contains, append_assoc, ◌≤◌, length, get_or, ◌-◌, drop, take, arith}
+use Rattle.std.proofs.Common.{◌≡◌, refl, ◌∙◌, ℕ, List, [], ◌∷◌, ◌++◌, Option, None, Some, IfSome, Result, Ok, Err, Contains, append_assoc, ◌≤◌, length, get_or, ◌-◌, drop, take, arith}
 use Rattle.std.proofs.lemmas.List.{take_all}
 use Rattle.std.proofs.lemmas.List.Elements.{Contains-append_left, Contains-append_right}
 use Rattle.source_tables.specs.declared.decl.TableDecl.{TableDecl}

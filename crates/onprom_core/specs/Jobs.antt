@@ -3,13 +3,10 @@ use Rattle.std.specs.Prelude.{◌≡◌, ◌≢◌, ◌⊎◌, ℕ, ◌≤◌, o
 use Rattle.std.specs.List.{flat_map, filter_map, take_while}
 use Rattle.std.specs.List.Sorted.{IsStrictlySortedBy}
 use Rattle.std.specs.Ordering.{nat_cmp}
-use Rattle.std.specs.Str.{bytes_eq}
 use Rattle.vocabulary.specs.Lists.{In, IsListOf}
-use Rattle.vocabulary.specs.declared.term.Term.{Term}
 use Rattle.vocabulary.specs.declared.term.Fact.{Fact}
 use Rattle.line_lexer.specs.Faults.{limit_of, name_of}
 use Rattle.line_lexer.specs.declared.fault.Counted.TheVariants.{Rewriting as RewritingCount, Steps}
-use Rattle.dllite_axioms.specs.declared.axioms.Axiom.{Axiom}
 use Rattle.dllite_axioms.specs.declared.axioms.Constraint.{Constraint}
 use Rattle.dllite_axioms.specs.declared.axioms.Tbox.{Tbox}
 use Rattle.dllite_axioms.specs.Clashes.{IsContradicted, IsConsistent}

@@ -1,6 +1,5 @@
 //! Reading what a run needs, and doing its job.
 ghost use Rattle.std.specs.Prelude.{◌≡◌, ◌+◌, ◌≤◌, IfSome, IfOk, IfErr, IsErr, length};
-ghost use Rattle.annotation_language.specs.Complete.{IsComplete};
 ghost use Rattle.onprom_core.specs.Causes.{CountsReading, IsLocal, SaysUsage, SaysUsageAtMost};
 ghost use Rattle.onprom_core.specs.Commands.{Extract, is_extract};
 ghost use Rattle.onprom_core.specs.Outputs.{Adds, EndsWell, Passes, Refuses, Works, rest_step};
@@ -148,7 +147,6 @@ fn passed<T>(alloc: Global, what: Counted) -> Result<T, Halt>
 
 fn completed(alloc: Global, name: &str, project: &Project) -> Result<(), Halt>
     ensures told { Gives (λ done. project.now) result (complete_step name.now project.now) }
-    ensures whole { IfOk result (λ done. IsComplete project.now.noted.notes) }
     ensures usage { IfErr result (λ h. SaysUsage h → ⊥) }
     ensures local { IfErr result IsLocal }
 {
