@@ -1,12 +1,14 @@
 //! Answers of small queries over one small table.
-ghost use Rattle.std.specs.Prelude.{◌≡◌, ◌≤◌, ◌∷◌, if◌then◌else◌, length, option_to_list, IfOk, IfSome};
-ghost use Rattle.mapping_facts.specs.Fits.{AreFit, ConditionFits, MappingFits, QueryFits, TargetFits, TermFits};
+ghost use Rattle.std.specs.Prelude.{◌≡◌, ◌≤◌, ◌∷◌, All, if◌then◌else◌, length, option_to_list, IfOk, IfSome};
+ghost use Rattle.mapping_facts.specs.Fits.{AreFit, ConditionFits, MappingFits, QueryFits, RowQueryFits, TargetFits, TermFits};
 ghost use Rattle.queries.specs.Occurrences.{HeadStands, KnownAtom, KnownConstants, atom_occurs};
 
 use crate::{Answers, answers};
 use dllite_axioms::{Axiom, Basic, Tbox};
 use iri_templates::Template;
+use join_engine::join;
 use mapping_facts::{Condition, Mapping, Place, RowTerm, SourceQuery, Target};
+use mapping_unfolding::{Unfolded, unfold};
 use queries::{Arg, Atom, Query};
 use source_tables::{ColumnDecl, Table, TableDecl, load};
 use std::alloc::{AllocError, Global};
@@ -284,5 +286,30 @@ fn nulls_give_no_answers(rt: HostRuntime) -> Result<(), AllocError> {
         )?;
         assert_eq!(rt; text.as_str(), "http://e/2;");
     }
+    Ok(())
+}
+
+// The number of tuples of the first row query.
+fn joined(alloc: Global, list: &[Unfolded], tables: &[Table]) -> Result<usize, AllocError>
+    requires { All (λ u. RowQueryFits u.rows) list.now }
+{
+    match list.get(0) {
+        Some(unfolded) => Ok(join(alloc, &unfolded.rows, tables)?.len()),
+        None => Ok(0),
+    }
+}
+
+// A class that one mapping gives: one row query, which has the one row.
+#[test]
+fn a_class_is_unfolded_and_joined(rt: HostRuntime) -> Result<(), AllocError> {
+    let alloc = rt.alloc();
+    let mut mappings = Vec::new(alloc);
+    let member = Target::InClass(ClassId(0), object(&rt, alloc, 0)?);
+    mappings.push(at_each_row(alloc, member)?)?;
+    let query = query(alloc, in_class(0), None)?;
+    let tables = table(&rt, alloc, b"a,b\n1,x")?;
+    let list = unfold(alloc, &query, mappings.as_slice())?;
+    assert_eq!(rt; list.len(), 1);
+    assert_eq!(rt; joined(alloc, list.items(), tables.as_slice())?, 1);
     Ok(())
 }
