@@ -1,5 +1,5 @@
 -- What is asked of one more item of a list, and which queries are too wide.
-use Rattle.std.proofs.Common.{ℕ, ◌≡◌, refl, sym, ◌∙◌, ap, subst, ◌+◌, ◌<◌, List, [], ◌∷◌, ◌++◌, length, get_or, take, Option, Some, None, filter_map, zero, suc, arith, Result, Ok, Err, IfErr, ◌⊎◌, inl, inr}
+use Rattle.std.proofs.Common.{ℕ, ◌≡◌, refl, sym, ◌∙◌, ap, subst, ◌+◌, ◌<◌, List, [], ◌∷◌, ◌++◌, length, get_or, take, Option, Some, None, filter_map, zero, suc, arith, Result, Ok, Err, IfErr, inl, inr}
 use Rattle.std.specs.Prelude.{option_to_list}
 use Rattle.std.specs.Result.{IsErrAnd}
 use Rattle.std.specs.List.{flat_map}
@@ -20,7 +20,7 @@ use Rattle.annotation_language.specs.declared.notes.EventNote.{EventNote}
 use Rattle.annotation_language.specs.declared.notes.Annotations.{Annotations}
 use Rattle.log_assembly.specs.Asked.{Certain, IsAnswer}
 use Rattle.log_assembly.specs.declared.asked.Asked.{Asked}
-use Rattle.log_assembly.specs.Answered.{AreAnswersOf, AsksTooWide, EventIsTooWide, HasOne, IsEventAsked, IsInOrder, KeyIsTooWide, MayBeTooWide, asked_queries, event_queries, query_of}
+use Rattle.log_assembly.specs.Answered.{AreAnswersOf, AsksTooWide, EventIsTooWide, HasOne, IsEventAsked, IsInOrder, KeyIsTooWide, MayBeTooWide, event_queries, query_of}
 use Rattle.log_assembly.proofs.InOrder.{asked_in_order}
 
 -- a fault that is passed on

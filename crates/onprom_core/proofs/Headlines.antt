@@ -1,5 +1,5 @@
 -- What a run of `extract` writes for an accepted project.
-use Rattle.std.proofs.Common.{◌≡◌, ◌≢◌, refl, sym, subst, ap, arith, ◌∙◌, List, ℕ, [], ◌∷◌, ◌+◌, ◌≤◌, nat_lt, false, codes, length, Option, None, Some, IfSome, Result, Ok, Err, ◌⊎◌, inl, inr}
+use Rattle.std.proofs.Common.{◌≡◌, ◌≢◌, refl, subst, ap, arith, ◌∙◌, List, ℕ, [], ◌∷◌, ◌+◌, ◌≤◌, nat_lt, false, codes, length, Option, None, Some, IfSome, Ok, ◌⊎◌, inl, inr}
 use Rattle.std.specs.Io.KnownBytes.{Appends, Keeps}
 use Rattle.std.proofs.lemmas.List.{append-nil}
 use Rattle.line_lexer.specs.Faults.{limit_of}
@@ -13,7 +13,7 @@ use Rattle.onprom_core.specs.Causes.{IsWhole}
 use Rattle.onprom_core.specs.Commands.{Extract}
 use Rattle.onprom_core.specs.Delivery.{EndsAs, EndsJob, Completes}
 use Rattle.onprom_core.specs.Headline.{AreTables, Extracts, IsAccepted, IsHeld, IsQuiet, ReportsContradictions, TellsWidth, WritesLog}
-use Rattle.onprom_core.specs.Jobs.{Agrees, EndsExtraction, Ending, IsEnd, IsWide, extracted, too_wide, contradicted}
+use Rattle.onprom_core.specs.Jobs.{Agrees, EndsExtraction, Ending, IsWide, extracted, too_wide, contradicted}
 use Rattle.onprom_core.specs.Steps.{Step, ◌>>=◌}
 use Rattle.onprom_core.specs.Walk.{Files, Extracting, command_step, complete_step, extract_step, file_step, job_step, one_table, project_step, sources_step, tables_step, walk}
 

@@ -4,7 +4,7 @@ ghost use Rattle.onprom_core.specs.Causes.{CountsReading, IsLocal, SaysUsage, Sa
 ghost use Rattle.onprom_core.specs.Commands.{Extract, is_extract};
 ghost use Rattle.onprom_core.specs.Outputs.{Adds, EndsWell, Passes, Refuses, Works, rest_step};
 ghost use Rattle.onprom_core.specs.Steps.{Gives};
-ghost use Rattle.onprom_core.specs.Walk.{IsNoCommand, command_step, complete_step, extract_step, file_step, one_table, project_step, read_step, sources_step, table_step, tables_step, together_step, walk};
+ghost use Rattle.onprom_core.specs.Walk.{IsNoCommand, command_step, complete_step, extract_step, file_step, one_table, project_step, read_step, table_step, tables_step, together_step, walk};
 ghost use Rattle.jiff_core.specs.Calendar.{IsWithin};
 ghost use Rattle.project_language.specs.Project.{read_project};
 ghost use Rattle.project_language.specs.Sound.{IsSound};
