@@ -72,7 +72,8 @@ module _ (project : Project) (tables : List Loaded) (out out' report report' : O
     written = subst (Appends out out') texts.text written;
     said = e.report;
     the_report = texts.reported;
-    reported = reported }
+    reported = reported;
+  }
   log_written (too_wide agrees wide is) agreed free = absurd (free wide)
   log_written (contradicted clash ds are is) agreed free = absurd (clash agreed)
 
@@ -81,7 +82,8 @@ module _ (project : Project) (tables : List Loaded) (out out' report report' : O
   width_told (too_wide agrees wide is) agreed other = record {
     limit = same ∙ ap (λ e. e.status) is;
     unwritten = Keeps-of out out' (subst (Appends out out') (ap (λ e. e.out) is) written);
-    reported = subst (Appends report report') (ap (λ e. e.report) is) reported }
+    reported = subst (Appends report report') (ap (λ e. e.report) is) reported;
+  }
   width_told (contradicted clash ds are is) agreed wide = absurd (clash agreed)
 
   contradictions_reported : EndsExtraction project tables e → (Agrees project tables → ⊥) → ReportsContradictions project tables out out' report report' r
@@ -92,7 +94,8 @@ module _ (project : Project) (tables : List Loaded) (out out' report report' : O
     unwritten = Keeps-of out out' (subst (Appends out out') (ap (λ e. e.out) is) written);
     derivations = ds;
     accepted = are;
-    reported = subst (Appends report report') (ap (λ e. e.report) is) reported }
+    reported = subst (Appends report report') (ap (λ e. e.report) is) reported;
+  }
 
 module _ (words : List (List ℕ)) (faults faults' written written' reported reported' : ℕ) (out out' report report' : Option (List ℕ)) (r : Status) where
   -- over files that are known
@@ -106,10 +109,11 @@ module _ (words : List (List ℕ)) (faults faults' written written' reported rep
       by (inl job) =
           let free = whole project tables job.0 r job.1 job.2 in
           let told = ends free.1 free.0 in
-          let end : EndsExtraction project tables told.ending = rw (named, walked files p project tables a) at told.first in
-          (log_written project tables out out' report report' r told.ending told.status told.out told.report end,
-           width_told project tables out out' report report' r told.ending told.status told.out told.report end,
-           contradictions_reported project tables out out' report report' r told.ending told.status told.out told.report end)
+          let end : EndsExtraction project tables told.ending = rw (named, walked files p project tables a) at told.first in (
+            log_written project tables out out' report report' r told.ending told.status told.out told.report end,
+            width_told project tables out out' report report' r told.ending told.status told.out told.report end,
+            contradictions_reported project tables out out' report report' r told.ending told.status told.out told.report end,
+          )
 
   pub extracts_from : (held : Option Files) → IfSome held (λ files. r ≢ status.ReadFault → IsWhole r → EndsAs words files out out' report report' r)
       → IfSome held (λ files. Completes (walk words files).end faults faults' written written' reported reported' r)

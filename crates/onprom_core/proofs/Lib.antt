@@ -3,3 +3,4 @@ mod Extracting
 mod Walks
 mod PrintedSamples
 mod Headlines
+mod WalkSamples

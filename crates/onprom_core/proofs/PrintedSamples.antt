@@ -1,11 +1,14 @@
 -- How answers and queries are printed, computed.
-use Rattle.std.proofs.Common.{◌≡◌, refl, ℕ, [], ◌∷◌, codes, map}
+use Rattle.std.proofs.Common.{◌≡◌, refl, sym, ℕ, List, [], ◌∷◌, codes, map}
+use Rattle.std.specs.Fmt.{digits}
+use Rattle.std.specs.List.Sorted.{IsStrictlySortedBy}
+use Rattle.vocabulary.specs.Lists.{In, here, there}
 use Rattle.vocabulary.specs.declared.ids.ValueKind.TheVariants.{Text}
-use Rattle.vocabulary.specs.declared.term.Term.{Named, Value}
+use Rattle.vocabulary.specs.declared.term.Term.{Term, Named, Value}
 use Rattle.queries.specs.declared.query.Arg.{Arg}
 use Rattle.queries.specs.declared.query.Arg.TheVariants.{Blank, Var, Fixed}
 use Rattle.queries.specs.declared.query.Atom.TheVariants.{InClass, Linked}
-use Rattle.onprom_core.specs.Printed.{query_text, tuple_text}
+use Rattle.onprom_core.specs.Printed.{AreAnswers, lines_text, query_text, tuple_text}
 
 tuples : map tuple_text ([] ∷ (Named (codes "e:p/1") ∷ Value Text (codes "a\\b\"c\t\n\r'") ∷ []) ∷ [])
     ≡ codes "()" ∷ codes "<e:p/1> \"a\\\\b\\\"c\\t\\n\\r'\"" ∷ []
@@ -19,3 +22,19 @@ queries : map (query_text (codes "x" ∷ codes "y" ∷ []) (codes "A" ∷ []) (c
     ∷ record { head = []; atoms = Linked (record { 0 = 0 }) (Fixed (Named (codes "e:p"))) (Fixed (Value Text (codes "a\"b"))) ∷ [] } ∷ [])
     ≡ codes "(x, y) where A(x), p(y, _)" ∷ codes "() where p(iri \"e:p\", \"a\\\"b\")" ∷ []
 queries = refl
+
+-- a question without variables has the empty tuple for an answer, or none
+yes_or_no : AreAnswers (λ t. t ≡ []) (codes "()\n") (codes "answers 1\n") × AreAnswers (λ t. ⊥) [] (codes "answers 0\n")
+unfolding digits IsStrictlySortedBy
+yes_or_no = (
+  record { tuples = [] ∷ []; listed = record { ordered = (tt, tt); each = λ t m. elim m [ here e ↦ sym e | there m ↦ elim m [ ] ]; all = λ t e. here (sym e) }; text = refl; count = refl },
+  record { tuples = []; listed = record { ordered = tt; each = λ t m. elim m [ ]; all = λ t p. absurd p }; text = refl; count = refl },
+)
+
+-- where nothing is an answer, no text of one is that of the answers
+no_answer_left : AreAnswers (λ t. ⊥) (codes "()\n") (codes "answers 1\n") → ⊥
+no_answer_left a = by a.tuples a.listed.each a.text
+  where
+    by : (tuples : List (List Term)) → ((t : List Term) → In t tuples → ⊥) → codes "()\n" ≡ lines_text (map tuple_text tuples) → ⊥
+    by [] each same = absurd cc
+    by (t ∷ tuples) each same = each t (here refl)

@@ -1,0 +1,68 @@
+-- Commands by their words, and first ends of walks, computed.
+use Rattle.std.proofs.Common.{◌≡◌, refl, ℕ, Bool, true, false, List, [], ◌∷◌, Option, Some, None, Result, Ok, Err, codes, map}
+use Rattle.std.specs.Fmt.{digits}
+use Rattle.std.specs.Str.{chars, is_utf8}
+use Rattle.line_lexer.specs.Tokens.{tokens_behind, token_front}
+use Rattle.uml_model.specs.Lines as model_lines
+use Rattle.uml_model.specs.Rules as model_rules
+use Rattle.mapping_language.specs.Grammar as map_grammar
+use Rattle.mapping_language.specs.Tables as map_tables
+use Rattle.annotation_language.specs.Grammar as note_grammar
+use Rattle.annotation_language.specs.Lines as note_lines
+use Rattle.project_language.specs.Project.{open_lines, read_lines, read_project}
+use Rattle.onprom_core.specs.declared.status.Status.TheVariants as status
+use Rattle.onprom_core.specs.declared.halt.Stopped.{Stopped}
+use Rattle.onprom_core.specs.Commands.{Extract, Check, Verify, Answer, Rewrite, Make, command_of}
+use Rattle.onprom_core.specs.Lines.{line_refused, usage_line}
+use Rattle.onprom_core.specs.Walk.{Files, Job, Extracting, extract_step, one_table, tables_step, walk}
+
+-- each command; a number of documents has no leading zero, is not 0 and at most 100,000
+commands : map command_of ((codes "extract" ∷ codes "p" ∷ []) ∷ (codes "check" ∷ codes "p" ∷ []) ∷ (codes "verify" ∷ codes "p" ∷ codes "d" ∷ []) ∷ (codes "answer" ∷ codes "p" ∷ codes "q" ∷ []) ∷ (codes "rewrite" ∷ codes "p" ∷ codes "q" ∷ []) ∷ (codes "make" ∷ codes "100000" ∷ codes "summary" ∷ []) ∷ [])
+    ≡ Some (Extract (codes "p")) ∷ Some (Check (codes "p")) ∷ Some (Verify (codes "p") (codes "d")) ∷ Some (Answer (codes "p") (codes "q")) ∷ Some (Rewrite (codes "p") (codes "q")) ∷ Some (Make 100_000 (codes "summary")) ∷ []
+unfolding digits
+commands = refl
+
+no_commands : map command_of ([] ∷ (codes "extract" ∷ []) ∷ (codes "extract" ∷ codes "p" ∷ codes "q" ∷ []) ∷ (codes "Extract" ∷ codes "p" ∷ []) ∷ (codes "make" ∷ codes "07" ∷ codes "doc.csv" ∷ []) ∷ (codes "make" ∷ codes "0" ∷ codes "doc.csv" ∷ []) ∷ (codes "make" ∷ codes "100001" ∷ codes "doc.csv" ∷ []) ∷ (codes "make" ∷ codes "1" ∷ codes "doc" ∷ []) ∷ [])
+    ≡ None ∷ None ∷ None ∷ None ∷ None ∷ None ∷ None ∷ None ∷ []
+unfolding digits
+no_commands = refl
+
+-- what a walk stops with, none where it comes to its job
+abbrev stopped_with : Result Job Stopped → Option Stopped
+stopped_with (Ok job) = None
+stopped_with (Err stopped) = Some stopped
+
+abbrev extract : List ℕ → Files → Option Stopped
+extract p files = stopped_with (walk (codes "extract" ∷ p ∷ []) files).end
+
+-- a command that is not built is none
+usage : stopped_with (walk (codes "check" ∷ codes "p" ∷ []) []).end ≡ Some (record { status = status.Usage; line = usage_line })
+unfolding walk
+usage = refl
+
+absent : extract (codes "p") [] ≡ Some (record { status = status.Absent; line = codes "absent: p\n" })
+unfolding walk extract_step
+absent = refl
+
+-- a project with these lines
+abbrev held : List ℕ → Files
+held text = (codes "p", text) ∷ []
+
+syntax : extract (codes "p") (held (codes "x")) ≡ Some (record { status = status.Refused; line = codes "refused: p line 1: Syntax\n" })
+unfolding digits walk extract_step line_refused chars tokens_behind token_front open_lines read_lines read_project is_utf8 lib.Utf8.encode
+syntax = refl
+
+-- annotations without a case lack it in no line
+lacking : extract (codes "p") (held (codes "onprom 1\nclass A")) ≡ Some (record { status = status.Refused; line = codes "refused: p line 0: NoCase\n" })
+unfolding digits walk extract_step line_refused chars tokens_behind token_front model_lines.model_line model_rules.broken open_lines read_lines read_project is_utf8 lib.Utf8.encode
+lacking = refl
+
+-- a table is begun behind the project, and only then
+table_begun : (walk (codes "extract" ∷ codes "p" ∷ []) (held (codes "onprom 1\ntable t \"t.csv\"\ncolumn t a text\nclass A\ncase c where A(c)\n"))).begun ≡ codes "p" ∷ codes "t.csv" ∷ []
+unfolding walk extract_step one_table tables_step chars tokens_behind token_front map_grammar.source_line map_grammar.table_line map_grammar.column_line map_tables.broken map_tables.grown map_grammar.at_most model_lines.model_line model_rules.broken note_grammar.at_most note_grammar.atom note_grammar.of_any note_grammar.of_one note_grammar.annotation_line note_lines.broken note_lines.grown open_lines read_lines read_project is_utf8 lib.Utf8.encode
+table_begun = refl
+
+-- where all is read, the walk comes to its job
+done : extract (codes "p") (held (codes "onprom 1\nclass A\ncase c where A(c)\n")) ≡ None
+unfolding walk extract_step tables_step chars tokens_behind token_front model_lines.model_line model_rules.broken note_grammar.at_most note_grammar.atom note_grammar.of_any note_grammar.of_one note_grammar.annotation_line note_lines.broken note_lines.grown open_lines read_lines read_project is_utf8 lib.Utf8.encode
+done = refl
