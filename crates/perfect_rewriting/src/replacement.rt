@@ -1,22 +1,71 @@
 //! What an axiom makes of an atom.
 ghost use Rattle.std.specs.Prelude.{◌≡◌, IfOk, option_copied};
-ghost use Rattle.perfect_rewriting.specs.Steps.{asked_at, atom_of, replaced_by};
+ghost use Rattle.perfect_rewriting.specs.Steps.{asked_at, atom_of, link_atom, replaced_by};
+ghost use Rattle.dllite_axioms.specs.declared.axioms.Axiom.TheVariants.{Sub, SubLink};
 
 use dllite_axioms::{Axiom, Basic};
 use queries::{Arg, Atom};
 use std::alloc::{AllocError, Global};
-use vocabulary::Dir;
+use vocabulary::{Dir, LinkId};
 
-/// The left side of the axiom at the argument at which the atom asks its right side, `None` exactly
-/// where the atom does not ask it. A link with a variable or a constant at the other end asks for
-/// more than the axiom gives.
+/// The left side of the axiom at the argument at which the atom asks its right side, or the narrower
+/// link between the arguments of the wider one, `None` exactly where the atom does not ask it. A link
+/// with a variable or a constant at the other end asks for more than an axiom between basics gives.
 pub fn replace_atom(alloc: Global, axiom: &Axiom, atom: &Atom) -> Result<Option<Atom>, AllocError>
     ensures { IfOk result (λ made. made ≡ replaced_by «axiom».now atom.now) }
 {
-    let Axiom::Sub(left, right) = *axiom;
+    match *axiom {
+        Axiom::Sub(left, right) => replace_basic(alloc, left, right, atom),
+        Axiom::SubLink(narrow, dir, wide) => replace_link(alloc, narrow, dir, wide, atom),
+    }
+}
+
+fn replace_basic(
+    alloc: Global,
+    left: Basic,
+    right: Basic,
+    atom: &Atom,
+) -> Result<Option<Atom>, AllocError>
+    ensures { IfOk result (λ made. made ≡ replaced_by (Sub left right) atom.now) }
+{
     match asked(right, atom) {
         Some(arg) => Ok(Some(asking(alloc, left, arg)?)),
         None => Ok(None),
+    }
+}
+
+fn replace_link(
+    alloc: Global,
+    narrow: LinkId,
+    dir: Dir,
+    wide: LinkId,
+    atom: &Atom,
+) -> Result<Option<Atom>, AllocError>
+    ensures { IfOk result (λ made. made ≡ replaced_by (SubLink narrow dir wide) atom.now) }
+{
+    match atom {
+        Atom::Linked(link, x, y) if link.0 == wide.0 => {
+            Ok(Some(joining(alloc, narrow, dir, x, y)?))
+        }
+        _ => Ok(None),
+    }
+}
+
+// The link atom with the first argument at the end that the direction starts from.
+fn joining(
+    alloc: Global,
+    link: LinkId,
+    dir: Dir,
+    x: &Arg,
+    y: &Arg,
+) -> Result<Atom, AllocError>
+    ensures { IfOk result (λ atom. atom ≡ link_atom link dir x.now y.now) }
+{
+    let x = x.copy(alloc)?;
+    let y = y.copy(alloc)?;
+    match dir {
+        Dir::Fwd => Ok(Atom::Linked(link, x, y)),
+        Dir::Back => Ok(Atom::Linked(link, y, x)),
     }
 }
 
@@ -45,7 +94,7 @@ fn asking(alloc: Global, basic: Basic, arg: &Arg) -> Result<Atom, AllocError>
 #[cfg(test)]
 mod tests {
     use super::*;
-    use vocabulary::{ClassId, LinkId, VarId};
+    use vocabulary::{ClassId, VarId};
 
     // Each review is about a paper: class 0 the reviews, link 0.
     #[test]
