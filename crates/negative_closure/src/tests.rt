@@ -1,10 +1,10 @@
-//! Small models: what lies below, the sources, and plans that are run.
+//! Small models: what lies below, what is under, the sources, and plans that are run.
 ghost use Rattle.std.specs.Prelude.{◌≡◌, IfOk, IsTrue};
 ghost use Rattle.vocabulary.specs.Lists.{In};
 ghost use Rattle.dllite_axioms.specs.declared.axioms.Axiom.{Axiom as AxiomOf};
-ghost use Rattle.negative_closure.specs.Chains.{IsAxiomWithin, IsConstraintWithin, IsWithin};
+ghost use Rattle.dllite_axioms.specs.Within.{IsAxiomWithin, IsConstraintWithin, IsWithin};
+ghost use Rattle.negative_closure.specs.Sources.{HasExactSources};
 
-use crate::axiom_index::sides;
 use crate::basics::is_same;
 use crate::{Downs, Plan, Source};
 use dllite_axioms::{Axiom, Basic, Constraint, Tbox, apply, clash};
@@ -56,16 +56,12 @@ fn plans_end_in_clashes(rt: HostRuntime) -> Result<(), Fail> {
     let alloc = rt.alloc();
     let tbox = example(alloc)?;
     let downs = downs_of(&rt, alloc, &tbox, 3, 1)?;
-    let case = Case {
-        tbox: &tbox,
-        downs: &downs,
-        constraint: Constraint::Disjoint(B, C),
-        sources: 10,
-    };
-    case.meets(&rt, alloc, member(alloc, 0)?, member(alloc, 0)?, 1)?;
-    case.meets(&rt, alloc, member(alloc, 1)?, member(alloc, 1)?, 2)?;
-    case.meets(&rt, alloc, link(alloc, "b")?, link(alloc, "b")?, 3)?;
-    case.meets(&rt, alloc, member(alloc, 0)?, member(alloc, 1)?, 0)?;
+    let constraint = Constraint::Disjoint(B, C);
+    let sources = 10;
+    meets(&rt, alloc, &tbox, &downs, &constraint, member(alloc, 0)?, member(alloc, 0)?, Expected { sources, met: 1 })?;
+    meets(&rt, alloc, &tbox, &downs, &constraint, member(alloc, 1)?, member(alloc, 1)?, Expected { sources, met: 2 })?;
+    meets(&rt, alloc, &tbox, &downs, &constraint, link(alloc, "b")?, link(alloc, "b")?, Expected { sources, met: 3 })?;
+    meets(&rt, alloc, &tbox, &downs, &constraint, member(alloc, 0)?, member(alloc, 1)?, Expected { sources, met: 0 })?;
     Ok(())
 }
 
@@ -75,14 +71,10 @@ fn plans_pass_no_circle_twice(rt: HostRuntime) -> Result<(), Fail> {
     let alloc = rt.alloc();
     let tbox = circle(alloc)?;
     let downs = downs_of(&rt, alloc, &tbox, 2, 0)?;
-    let case = Case {
-        tbox: &tbox,
-        downs: &downs,
-        constraint: Constraint::Disjoint(A, B),
-        sources: 6,
-    };
-    case.meets(&rt, alloc, member(alloc, 0)?, member(alloc, 0)?, 2)?;
-    case.meets(&rt, alloc, member(alloc, 1)?, member(alloc, 0)?, 1)?;
+    let constraint = Constraint::Disjoint(A, B);
+    let sources = 6;
+    meets(&rt, alloc, &tbox, &downs, &constraint, member(alloc, 0)?, member(alloc, 0)?, Expected { sources, met: 2 })?;
+    meets(&rt, alloc, &tbox, &downs, &constraint, member(alloc, 1)?, member(alloc, 0)?, Expected { sources, met: 1 })?;
     Ok(())
 }
 
@@ -93,50 +85,94 @@ fn circle(alloc: Global) -> Result<Tbox, AllocError> {
     Ok(Tbox::new(axioms, List::new(alloc)))
 }
 
-// Two known fillers clash whatever the axioms say.
+// Two known fillers clash without any axiom.
 #[test]
 fn two_fillers_need_no_rule(rt: HostRuntime) -> Result<(), Fail> {
     let alloc = rt.alloc();
-    let tbox = example(alloc)?;
-    let downs = downs_of(&rt, alloc, &tbox, 3, 1)?;
-    let case = Case {
-        tbox: &tbox,
-        downs: &downs,
-        constraint: Constraint::Func(LinkId(0), Dir::Fwd),
-        sources: 1,
-    };
-    case.meets(&rt, alloc, link(alloc, "b")?, link(alloc, "c")?, 1)?;
-    case.meets(&rt, alloc, link(alloc, "b")?, link(alloc, "b")?, 0)?;
+    let tbox = Tbox::new(List::new(alloc), List::new(alloc));
+    let downs = downs_of(&rt, alloc, &tbox, 0, 1)?;
+    let constraint = Constraint::Func(LinkId(0), Dir::Fwd);
+    let sources = 1;
+    meets(&rt, alloc, &tbox, &downs, &constraint, link(alloc, "b")?, link(alloc, "c")?, Expected { sources, met: 1 })?;
+    meets(&rt, alloc, &tbox, &downs, &constraint, link(alloc, "b")?, link(alloc, "b")?, Expected { sources, met: 0 })?;
     Ok(())
 }
 
-// A constraint with so many sources.
-#[derive(Clone, Copy)]
-struct Case<'a> {
-    tbox: &'a Tbox,
-    downs: &'a Downs,
-    constraint: Constraint,
-    sources: usize,
+// Each A has a filler of link 2, whose facts are facts of 0 and of 1, between which no two are joined.
+#[test]
+fn links_end_in_clashes(rt: HostRuntime) -> Result<(), Fail> {
+    let alloc = rt.alloc();
+    let tbox = three_links(alloc)?;
+    let downs = downs_of(&rt, alloc, &tbox, 1, 3)?;
+    let constraint = Constraint::Apart(LinkId(0), Dir::Fwd, LinkId(1));
+    let sources = 7;
+    meets(&rt, alloc, &tbox, &downs, &constraint, member(alloc, 0)?, member(alloc, 0)?, Expected { sources, met: 1 })?;
+    meets(&rt, alloc, &tbox, &downs, &constraint, fact(alloc, 2)?, fact(alloc, 2)?, Expected { sources, met: 3 })?;
+    meets(&rt, alloc, &tbox, &downs, &constraint, fact(alloc, 0)?, fact(alloc, 1)?, Expected { sources, met: 1 })?;
+    meets(&rt, alloc, &tbox, &downs, &constraint, fact(alloc, 1)?, fact(alloc, 0)?, Expected { sources, met: 0 })?;
+    Ok(())
 }
 
-impl<'a> Case<'a> {
-    // The facts meet so many of the sources, and each of their plans ends in a clash.
-    fn meets<R: Abort>(
-        &self,
-        rt: &R,
-        alloc: Global,
-        first: Fact,
-        second: Fact,
-        count: usize,
-    ) -> Result<(), AllocError> {
-        let (tbox, downs, constraint) = (self.tbox, self.downs, self.constraint);
-        assert!(rt; is_constraint_within(constraint, downs.classes(), downs.links()));
-        let sources = downs.empty_sources(alloc, &constraint)?;
-        assert!(rt; sources.len() == self.sources);
-        let met = met(rt, alloc, tbox, downs, &constraint, &first, &second)?;
-        assert!(rt; met == count);
-        Ok(())
+// What is owned by an owner, the owner owns: links 0 `owns` and 1 `ownedBy`.
+#[test]
+fn finds_what_is_under(rt: HostRuntime) -> Result<(), Fail> {
+    let alloc = rt.alloc();
+    let tbox = owning(alloc)?;
+    let downs = downs_of(&rt, alloc, &tbox, 0, 2)?;
+    let (owns, owned) = (LinkId(0), LinkId(1));
+    let under = downs.under(owns, Dir::Back);
+    assert_eq!(rt; under.len(), 2);
+    assert!(rt; under[0].0.0 == 0 && under[0].1 == Dir::Back);
+    assert!(rt; under[1].0.0 == 1 && under[1].1 == Dir::Fwd);
+    assert_eq!(rt; downs.lefts(owns, Dir::Fwd).len(), 0);
+    match downs.link_chain(alloc, (owned, Dir::Fwd), (owns, Dir::Back))? {
+        Some(numbers) => assert!(rt; numbers.items() == [0].as_slice()),
+        None => assert!(rt; false, "one axiom leads there"),
     }
+    assert!(rt; downs.link_chain(alloc, (owns, Dir::Fwd), (owned, Dir::Fwd))?.is_none());
+    Ok(())
+}
+
+fn three_links(alloc: Global) -> Result<Tbox, AllocError> {
+    let mut axioms = List::new(alloc);
+    axioms.push(Axiom::Sub(A, Basic::Has(LinkId(2), Dir::Fwd)))?;
+    axioms.push(Axiom::SubLink(LinkId(2), Dir::Fwd, LinkId(0)))?;
+    axioms.push(Axiom::SubLink(LinkId(2), Dir::Fwd, LinkId(1)))?;
+    Ok(Tbox::new(axioms, List::new(alloc)))
+}
+
+fn owning(alloc: Global) -> Result<Tbox, AllocError> {
+    let mut axioms = List::new(alloc);
+    axioms.push(Axiom::SubLink(LinkId(1), Dir::Back, LinkId(0)))?;
+    Ok(Tbox::new(axioms, List::new(alloc)))
+}
+
+// How many sources a constraint has, and how many of them two facts meet.
+#[derive(Clone, Copy)]
+struct Expected {
+    sources: usize,
+    met: usize,
+}
+
+// The two facts meet so many of the sources, and each of their plans ends in a clash.
+fn meets<R: Abort>(
+    rt: &R,
+    alloc: Global,
+    tbox: &Tbox,
+    downs: &Downs,
+    constraint: &Constraint,
+    first: Fact,
+    second: Fact,
+    expected: Expected,
+) -> Result<(), AllocError>
+    requires { HasExactSources downs.now.axioms constraint.now }
+{
+    assert!(rt; is_constraint_within(constraint, downs.classes(), downs.links()));
+    let sources = downs.empty_sources(alloc, constraint)?;
+    assert!(rt; sources.len() == expected.sources);
+    let met = met(rt, alloc, tbox, downs, constraint, &first, &second)?;
+    assert!(rt; met == expected.met);
+    Ok(())
 }
 
 fn member(alloc: Global, class: u32) -> Result<Fact, AllocError> {
@@ -145,6 +181,10 @@ fn member(alloc: Global, class: u32) -> Result<Fact, AllocError> {
 
 fn link(alloc: Global, to: &str) -> Result<Fact, AllocError> {
     Ok(Fact::Linked(LinkId(0), object(alloc, "a")?, object(alloc, to)?))
+}
+
+fn fact(alloc: Global, link: u32) -> Result<Fact, AllocError> {
+    Ok(Fact::Linked(LinkId(link), object(alloc, "a")?, object(alloc, "b")?))
 }
 
 fn object(alloc: Global, iri: &str) -> Result<Term, AllocError> {
@@ -161,12 +201,13 @@ fn met<R: Abort>(
     first: &Fact,
     second: &Fact,
 ) -> Result<usize, AllocError>
-    requires { IsConstraintWithin downs.now.classes downs.now.links constraint.now }
+    requires within { IsConstraintWithin downs.now.classes downs.now.links constraint.now }
+    requires exact { HasExactSources downs.now.axioms constraint.now }
 {
     let sources = downs.empty_sources(alloc, constraint)?;
     let mut count: usize = 0;
     for source in sources.items() {
-        if is_met(source, first, second) {
+        if is_met(alloc, source, first, second)? {
             let plan = downs.plan(alloc, constraint, source)?;
             assert!(rt; ends_in_clash(alloc, tbox, constraint, &plan, first, second)?);
             count += 1;
@@ -175,12 +216,27 @@ fn met<R: Abort>(
     Ok(count)
 }
 
-fn is_met(source: &Source, first: &Fact, second: &Fact) -> bool {
-    match *source {
+fn is_met(
+    alloc: Global,
+    source: &Source,
+    first: &Fact,
+    second: &Fact,
+) -> Result<bool, AllocError> {
+    let facts = pair(alloc, first, second)?;
+    let facts = facts.as_slice();
+    Ok(match *source {
         Source::One(basic) => basic.term_in(first).is_some() && first.same(second),
-        Source::Two(left, right) => clash(&Constraint::Disjoint(left, right), first, second),
-        Source::TwoFillers(link, dir) => clash(&Constraint::Func(link, dir), first, second),
-    }
+        Source::Two(left, right) => clash(&Constraint::Disjoint(left, right), facts),
+        Source::TwoFillers(link, dir) => clash(&Constraint::Func(link, dir), facts),
+        Source::TwoLinks(one, dir, two) => clash(&Constraint::Apart(one, dir, two), facts),
+    })
+}
+
+fn pair(alloc: Global, first: &Fact, second: &Fact) -> Result<Vec<Fact>, AllocError> {
+    let mut facts = Vec::new(alloc);
+    facts.push(first.copy(alloc)?)?;
+    facts.push(second.copy(alloc)?)?;
+    Ok(facts)
 }
 
 fn ends_in_clash(
@@ -207,7 +263,10 @@ fn ends_in_clash(
         item(steps.items(), plan.first),
         item(steps.items(), plan.second),
     ) {
-        (Some(one), Some(two)) => Ok(clash(constraint, one, two)),
+        (Some(one), Some(two)) => {
+            let facts = pair(alloc, one, two)?;
+            Ok(clash(constraint, facts.as_slice()))
+        }
         _ => Ok(false),
     }
 }
@@ -237,12 +296,22 @@ fn are_within(axioms: &[Axiom], classes: u32, links: u32) -> bool
     ensures { IsTrue result → (a : AxiomOf) → In a axioms.now → IsAxiomWithin classes links a }
 {
     for axiom in axioms {
-        let (left, right) = sides(*axiom);
-        if !is_within(left, classes, links) || !is_within(right, classes, links) {
+        if !is_axiom_within(*axiom, classes, links) {
             return false;
         }
     }
     true
+}
+
+fn is_axiom_within(axiom: Axiom, classes: u32, links: u32) -> bool
+    ensures { IsTrue result → IsAxiomWithin classes links «axiom» }
+{
+    match axiom {
+        Axiom::Sub(left, right) => {
+            is_within(left, classes, links) && is_within(right, classes, links)
+        }
+        Axiom::SubLink(narrow, _, wide) => narrow.0 < links && wide.0 < links,
+    }
 }
 
 fn is_within(basic: Basic, classes: u32, links: u32) -> bool
@@ -254,13 +323,15 @@ fn is_within(basic: Basic, classes: u32, links: u32) -> bool
     }
 }
 
-fn is_constraint_within(constraint: Constraint, classes: u32, links: u32) -> bool
-    ensures { IsTrue result → IsConstraintWithin classes links constraint }
+fn is_constraint_within(constraint: &Constraint, classes: u32, links: u32) -> bool
+    ensures { IsTrue result → IsConstraintWithin classes links constraint.now }
 {
     match constraint {
         Constraint::Disjoint(left, right) => {
-            is_within(left, classes, links) && is_within(right, classes, links)
+            is_within(*left, classes, links) && is_within(*right, classes, links)
         }
         Constraint::Func(link, _) => link.0 < links,
+        Constraint::Apart(one, _, two) => one.0 < links && two.0 < links,
+        Constraint::Identified(_, _) => false,
     }
 }
