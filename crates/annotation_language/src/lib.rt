@@ -12,8 +12,6 @@ mod places;
 mod reader;
 mod resolved;
 mod rules;
-#[cfg(test)]
-mod tests;
 mod variables;
 mod written;
 

@@ -93,15 +93,3 @@ impl Annotations {
         self.events.items()
     }
 }
-
-#[cfg(test)]
-mod tests {
-    use super::*;
-
-    #[test]
-    fn begins_empty(rt: HostRuntime) {
-        let notes = Annotations::new(rt.alloc());
-        assert!(rt; notes.case_query().is_none() && notes.case_name().is_none());
-        assert!(rt; notes.events().is_empty());
-    }
-}

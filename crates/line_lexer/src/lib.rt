@@ -7,8 +7,6 @@ pub mod grammar;
 mod lines;
 mod runs;
 mod shape;
-#[cfg(test)]
-mod tests;
 mod token;
 mod tokens;
 mod values;

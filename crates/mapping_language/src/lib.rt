@@ -17,8 +17,6 @@ mod source_grammar;
 mod source_rules;
 mod sources;
 mod tables;
-#[cfg(test)]
-mod tests;
 mod written;
 
 pub use reader::{read_mapping_line, read_source_line};

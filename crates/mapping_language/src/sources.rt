@@ -35,14 +35,3 @@ impl Sources {
         self.mappings.items()
     }
 }
-
-#[cfg(test)]
-mod tests {
-    use super::*;
-
-    #[test]
-    fn begins_empty(rt: HostRuntime) {
-        let sources = Sources::new(rt.alloc());
-        assert!(rt; sources.tables().is_empty() && sources.mappings().is_empty());
-    }
-}

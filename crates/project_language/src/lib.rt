@@ -5,8 +5,6 @@ mod fault;
 mod line;
 mod project;
 mod reading;
-#[cfg(test)]
-mod tests;
 
 pub use fault::ProjectFault;
 pub use project::Project;
