@@ -1,5 +1,5 @@
 //! Making one atom of two.
-ghost use Rattle.std.specs.Prelude.{◌≡◌, ◌≢◌, ◌<◌, ◌-◌, ◌^◌, IfOk, length, map, option_map};
+ghost use Rattle.std.specs.Prelude.{◌≡◌, ◌≢◌, ◌<◌, ◌-◌, ◌^◌, ◌∷◌, IfOk, length, map, option_map};
 ghost use Rattle.queries.specs.Changes.{changed, changed_atom};
 ghost use Rattle.queries.specs.Unifying.{atoms_met, changed_both, changed_both_atom, class_met, fixed, further_met, joined, kept_arg, link_met, links_met, lower, met, others, unified};
 
@@ -60,25 +60,65 @@ impl Query {
         ensures { IfOk result (λ q. q ≡ joined self.now i j union) }
     {
         let head = union.on_args(alloc, self.head.items())?;
-        let rest = without(alloc, self.atoms.items(), i, j)?;
-        let mut atoms = union.on_atoms(alloc, rest.as_slice())?;
-        let Union { atom, .. } = union;
-        atoms.insert(0, atom)?;
-        Ok(Query {
-            head: List::from_vec(head),
-            atoms: List::from_vec(atoms),
-        })
+        let atoms = union.on_others(alloc, self.atoms.items(), i, j)?;
+        query_of(head, union.into_atom(), atoms)
     }
 }
 
+fn query_of(head: Vec<Arg>, first: Atom, mut atoms: Vec<Atom>) -> Result<Query, AllocError>
+    ensures { IfOk result (λ q. q ≡ record { head = head.items; atoms = first ∷ atoms.items }) }
+{
+    atoms.insert(0, first)?;
+    Ok(Query {
+        head: List::from_vec(head),
+        atoms: List::from_vec(atoms),
+    })
+}
+
 impl Union {
+    fn into_atom(self) -> Atom
+        ensures { result ≡ self.atom }
+    {
+        self.atom
+    }
+
+    fn on_arg(&self, alloc: Global, arg: &Arg) -> Result<Arg, AllocError>
+        ensures { IfOk result (λ x. x ≡ changed_both self.now arg.now) }
+    {
+        let once = self.first.on(alloc, arg)?;
+        self.second.on(alloc, &once)
+    }
+
+    fn on_atom(&self, alloc: Global, atom: &Atom) -> Result<Atom, AllocError>
+        ensures { IfOk result (λ a. a ≡ changed_both_atom self.now atom.now) }
+    {
+        let once = self.first.on_atom(alloc, atom)?;
+        self.second.on_atom(alloc, &once)
+    }
+
+    // The atoms but those at two places.
+    fn on_others(
+        &self,
+        alloc: Global,
+        atoms: &[Atom],
+        i: usize,
+        j: usize,
+    ) -> Result<Vec<Atom>, AllocError>
+        requires first { i < length atoms.now }
+        requires second { j < length atoms.now }
+        requires apart { i ≢ j }
+        ensures { IfOk result (λ out. out.items ≡ map (changed_both_atom self.now) (others i j atoms.now)) }
+    {
+        let rest = without(alloc, atoms, i, j)?;
+        self.on_atoms(alloc, rest.as_slice())
+    }
+
     fn on_args(&self, alloc: Global, args: &[Arg]) -> Result<Vec<Arg>, AllocError>
         ensures { IfOk result (λ out. out.items ≡ map (changed_both self.now) args.now) }
     {
         let mut out = Vec::new(alloc);
         for x in args {
-            let once = self.first.on(alloc, x)?;
-            out.push(self.second.on(alloc, &once)?)?;
+            out.push(self.on_arg(alloc, x)?)?;
         }
         Ok(out)
     }
@@ -88,8 +128,7 @@ impl Union {
     {
         let mut out = Vec::new(alloc);
         for a in atoms {
-            let once = self.first.on_atom(alloc, a)?;
-            out.push(self.second.on_atom(alloc, &once)?)?;
+            out.push(self.on_atom(alloc, a)?)?;
         }
         Ok(out)
     }
@@ -202,12 +241,23 @@ fn meet_further(
 ) -> Result<Option<Union>, AllocError>
     ensures { IfOk result (λ made. made ≡ further_met link y.now w.now first) }
 {
-    let left = first.change.on(alloc, y)?;
-    let right = first.change.on(alloc, w)?;
-    match meet(alloc, &left, &right)? {
+    match meet_changed(alloc, &first.change, y, w)? {
         Some(second) => Ok(Some(link_union(alloc, link, first, second)?)),
         None => Ok(None),
     }
+}
+
+fn meet_changed(
+    alloc: Global,
+    change: &Change,
+    y: &Arg,
+    w: &Arg,
+) -> Result<Option<Meeting>, AllocError>
+    ensures { IfOk result (λ made. made ≡ met (changed change.now y.now) (changed change.now w.now)) }
+{
+    let left = change.on(alloc, y)?;
+    let right = change.on(alloc, w)?;
+    meet(alloc, &left, &right)
 }
 
 fn link_union(
