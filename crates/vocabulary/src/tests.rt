@@ -4,43 +4,95 @@ use sqlite_items::Boxed;
 use std::alloc::{AllocError, Global};
 use std::test::Fail;
 
-fn named(alloc: Global, text: &str) -> Result<Term, AllocError> {
-    Ok(Term::Named(Name::new(alloc, text)?))
+fn is_numbered(names: &mut Names, text: &str, number: u32) -> Result<bool, AllocError> {
+    if names.len() < 3 {
+        Ok(names.add(text)? == number)
+    } else {
+        Ok(false)
+    }
+}
+
+fn are_two_names(names: &Names) -> bool {
+    names.len() == 2 && names.text(1) == "B" && names.find("C") == None
 }
 
 #[test]
 fn numbers_names_in_first_seen_order(rt: HostRuntime) -> Result<(), Fail> {
     let mut names = Names::new(rt.alloc());
     for (text, number) in [("A", 0), ("B", 1), ("A", 0)] {
-        assert!(rt; names.len() < 3);
-        assert_eq!(rt; names.add(text)?, number);
+        assert!(rt; is_numbered(&mut names, text, number)?);
     }
-    assert_eq!(rt; names.len(), 2);
-    assert_eq!(rt; names.text(1), "B");
-    assert_eq!(rt; names.find("C"), None);
+    assert!(rt; are_two_names(&names));
     Ok(())
+}
+
+fn named(alloc: Global, text: &str) -> Result<Term, AllocError> {
+    Ok(Term::Named(Name::new(alloc, text)?))
+}
+
+fn seven(alloc: Global) -> Result<Term, AllocError> {
+    Ok(Term::Value(ValueKind::Int, Name::new(alloc, "7")?))
+}
+
+fn fresh(alloc: Global) -> Result<Term, AllocError> {
+    let parent = Boxed::new(alloc, named(alloc, "a")?)?;
+    Ok(Term::New(LinkId(0), Dir::Fwd, parent))
+}
+
+fn is_term_copied(alloc: Global, term: &Term, known: bool) -> Result<bool, AllocError> {
+    Ok(term.copy(alloc)?.same(term) && term.is_known() == known)
+}
+
+fn is_unlike_fresh(alloc: Global, term: &Term) -> Result<bool, AllocError> {
+    let fresh = fresh(alloc)?;
+    Ok(is_term_copied(alloc, &fresh, false)? && !fresh.same(term))
+}
+
+fn terms_are_copied(alloc: Global) -> Result<bool, AllocError> {
+    let value = seven(alloc)?;
+    Ok(
+        is_term_copied(alloc, &value, true)?
+            && is_unlike_fresh(alloc, &value)?
+            && Side::of(&value) == Side::Value(ValueKind::Int),
+    )
+}
+
+fn member(alloc: Global) -> Result<Fact, AllocError> {
+    Ok(Fact::InClass(ClassId(0), named(alloc, "a")?))
+}
+
+fn link(alloc: Global) -> Result<Fact, AllocError> {
+    let fresh = fresh(alloc)?;
+    Ok(Fact::Linked(LinkId(0), named(alloc, "a")?, fresh))
+}
+
+fn two_facts(alloc: Global) -> Result<List<Fact>, AllocError> {
+    let mut facts = List::new(alloc);
+    facts.push(member(alloc)?)?;
+    facts.push(link(alloc)?)?;
+    Ok(facts)
+}
+
+fn is_fact_copied(alloc: Global, fact: &Fact) -> Result<bool, AllocError> {
+    Ok(fact.copy(alloc)?.same(fact))
+}
+
+fn facts_are_copied(alloc: Global) -> Result<bool, AllocError> {
+    let facts = two_facts(alloc)?;
+    match facts.items() {
+        [one, other] => Ok(
+            is_fact_copied(alloc, one)?
+                && is_fact_copied(alloc, other)?
+                && !one.same(other)
+                && facts.len() == 2,
+        ),
+        _ => Ok(false),
+    }
 }
 
 #[test]
 fn copies_are_the_same(rt: HostRuntime) -> Result<(), Fail> {
-    let alloc = rt.alloc();
-    let base = named(alloc, "a")?;
-    let fresh = Term::New(LinkId(0), Dir::Fwd, Boxed::new(alloc, base)?);
-    let value = Term::Value(ValueKind::Int, Name::new(alloc, "7")?);
-    for (term, known) in [(&fresh, false), (&value, true)] {
-        assert!(rt; term.copy(alloc)?.same(term));
-        assert_eq!(rt; term.is_known(), known);
-    }
-    assert!(rt; !fresh.same(&value));
-    assert_eq!(rt; Side::of(&value), Side::Value(ValueKind::Int));
-
-    let mut facts = List::new(alloc);
-    facts.push(Fact::InClass(ClassId(0), named(alloc, "a")?))?;
-    facts.push(Fact::Linked(LinkId(0), named(alloc, "a")?, fresh))?;
-    for fact in facts.items() {
-        assert!(rt; fact.copy(alloc)?.same(fact));
-    }
-    assert!(rt; !facts.items()[0].same(&facts.items()[1]));
-    assert_eq!(rt; facts.len(), 2);
+    assert!(rt; terms_are_copied(rt.alloc())?);
+    assert!(rt; facts_are_copied(rt.alloc())?);
     Ok(())
 }
