@@ -1,7 +1,7 @@
 -- The printed names of what is counted and of faults, and the limits.
 use Rattle.std.specs.Prelude.{ℕ, List, codes}
 use Rattle.line_lexer.specs.declared.fault.Counted.{Counted}
-use Rattle.line_lexer.specs.declared.fault.Counted.TheVariants.{File, TablesTogether, Lines, Tables, Columns, Keys, Rows, Classes, Links, Axioms, Constraints, Mappings, TablesOfMapping, Conditions, Targets, Atoms, Variables, Events, EventKeys, Queries, Rewriting, Steps}
+use Rattle.line_lexer.specs.declared.fault.Counted.TheVariants.{File, TablesTogether, Lines, Tables, Columns, Keys, Rows, Classes, Links, Axioms, Constraints, Mappings, TablesOfMapping, Conditions, Targets, Atoms, Variables, Events, EventKeys, Queries, Rewriting, Steps, IdentifyingAttributes}
 use Rattle.line_lexer.specs.declared.fault.LineFault.{LineFault}
 use Rattle.line_lexer.specs.declared.fault.LineFault.TheVariants.{Syntax, Unknown, Double, TypeMismatch, BadTemplate, NotBounded, MixedSort, HeadUnbound, BadKey, NoCase, NoCases, NoTime, NoActivity, FunctionalSpecialised, NotBuilt, Limit, NoMemory}
 
@@ -29,6 +29,7 @@ name_of EventKeys = codes "event keys"
 name_of Queries = codes "queries"
 name_of Rewriting = codes "rewriting"
 name_of Steps = codes "steps"
+name_of IdentifyingAttributes = codes "identifying attributes"
 
 -- the number that a count may reach and not pass: bytes for the first two, else pieces
 abbrev pub limit_of : Counted → ℕ
@@ -53,7 +54,8 @@ limit_of Events = 64
 limit_of EventKeys = 64
 limit_of Queries = 256
 limit_of Rewriting = 4_000
-limit_of Steps = 5_000
+limit_of Steps = 8_000
+limit_of IdentifyingAttributes = 3
 
 -- the fault of a line, as `refused: P line L: KIND` prints it
 abbrev pub kind_of : LineFault → List ℕ

@@ -29,6 +29,7 @@ pub enum Counted {
     Queries,
     Rewriting,
     Steps,
+    IdentifyingAttributes,
 }
 
 impl Counted {
@@ -61,6 +62,7 @@ impl Counted {
             Counted::Queries => "queries",
             Counted::Rewriting => "rewriting",
             Counted::Steps => "steps",
+            Counted::IdentifyingAttributes => "identifying attributes",
         }
     }
 
@@ -90,7 +92,8 @@ impl Counted {
             Counted::EventKeys => 64,
             Counted::Queries => 256,
             Counted::Rewriting => 4_000,
-            Counted::Steps => 5_000,
+            Counted::Steps => 8_000,
+            Counted::IdentifyingAttributes => 3,
         }
     }
 
