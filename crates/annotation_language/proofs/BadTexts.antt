@@ -3,7 +3,8 @@ use Rattle.std.proofs.Common.{◌≡◌, refl, sym, ◌||◌, ◌&&◌, ◌==◌
 use Rattle.std.proofs.lemmas.Bool.Decides.{nat_tests}
 use Rattle.std.specs.List.{list_any, list_all}
 use Rattle.std.specs.Str.{bytes_eq}
-use Rattle.civil_values.specs.Texts.{is_xml_char, is_cell_text}
+use Rattle.vocabulary.specs.Texts.{is_xml_char}
+use Rattle.civil_values.specs.Texts.{is_cell_text}
 use Rattle.annotation_language.specs.Lines.{is_bad_text}
 
 moved : (empty object sign plain : Bool) → (not (not empty && plain) || object || sign) ≡ (empty || object || sign || not plain)

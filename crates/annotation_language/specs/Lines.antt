@@ -7,7 +7,7 @@ use Rattle.line_lexer.specs.declared.fault.LineFault.{LineFault}
 use Rattle.line_lexer.specs.declared.fault.LineFault.TheVariants.{Unknown, Double, TypeMismatch, BadTemplate, MixedSort, HeadUnbound, BadKey}
 use Rattle.line_lexer.specs.declared.fault.Counted.{Counted}
 use Rattle.line_lexer.specs.declared.fault.Counted.TheVariants.{Atoms, Variables, Events, EventKeys, Queries}
-use Rattle.civil_values.specs.Texts.{is_xml_char}
+use Rattle.vocabulary.specs.Texts.{is_xml_char}
 use Rattle.vocabulary.specs.Texts.{number_of}
 use Rattle.vocabulary.specs.declared.ids.ClassId.{ClassId}
 use Rattle.vocabulary.specs.declared.ids.LinkId.{LinkId}

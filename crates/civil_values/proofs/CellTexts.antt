@@ -14,7 +14,8 @@ use Rattle.civil_values.specs.Times.{CivilDay, IsDayTo, utc_text, IsTimeText}
 use Rattle.civil_values.specs.TimeReader.{time_canonical}
 use Rattle.civil_values.specs.Numbers.{int_value, int_text, int_canonical}
 use Rattle.civil_values.specs.Truth.{bool_value, bool_text, bool_canonical}
-use Rattle.civil_values.specs.Texts.{is_xml_char, is_cell_text, text_canonical}
+use Rattle.vocabulary.specs.Texts.{is_xml_char}
+use Rattle.civil_values.specs.Texts.{is_cell_text, text_canonical}
 use Rattle.civil_values.proofs.Digits.{digit_bounds, passed, some_same}
 use Rattle.civil_values.proofs.Moments.{mapped}
 use Rattle.civil_values.proofs.Numerals.{own, signed_value}

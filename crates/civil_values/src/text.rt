@@ -1,11 +1,14 @@
 // Texts.
 ghost use Rattle.std.specs.Prelude.{◌≡◌};
-ghost use Rattle.civil_values.specs.Texts.{is_xml_char, is_cell_text};
+ghost use Rattle.civil_values.specs.Texts.{is_cell_text};
+ghost use Rattle.vocabulary.specs.Texts.{is_xml_char};
+
+use vocabulary::is_xml_char;
 
 fn is_allowed(c: char) -> bool
     ensures { result ≡ is_xml_char c }
 {
-    matches!(c, '\t' | '\n' | '\r' | ' '..='\u{D7FF}' | '\u{E000}'..='\u{FFFD}' | '\u{10000}'..='\u{10FFFF}')
+    is_xml_char(c)
 }
 
 /// Whether a text is one character or more, each a character of XML 1.0.

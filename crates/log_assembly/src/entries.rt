@@ -1,6 +1,5 @@
 //! The attributes of events and traces, and the times of events.
 ghost use Rattle.std.specs.Prelude.{◌≡◌, ◌+◌, ◌∷◌, [], ◌++◌, codes, decimal, IfOk, OnOk, option_copied, string_bytes};
-ghost use Rattle.vocabulary.specs.Terms.{text_of};
 ghost use Rattle.log_assembly.specs.Judged.{entries_at, entries_of, lone_entry, time_of, times_at, times_of};
 ghost use Rattle.log_assembly.specs.TheLog.{entry_of, numbered};
 
@@ -10,16 +9,6 @@ use std::alloc::{AllocError, Global};
 use vocabulary::{Name, Side, Term, ValueKind};
 use xes_writer::Entry;
 
-fn text(term: &Term) -> &Name
-    ensures { result.now ≡ text_of term.now }
-{
-    match term {
-        Term::Named(text) => text,
-        Term::Value(_, text) => text,
-        Term::New(_, _, parent) => text(parent.get()),
-    }
-}
-
 /// The attribute of this key and value.
 pub(crate) fn entry(alloc: Global, key: &str, value: &Term) -> Result<Entry<Name>, AllocError>
     ensures { IfOk result (λ e. e ≡ entry_of key.now value.now) }
@@ -27,7 +16,7 @@ pub(crate) fn entry(alloc: Global, key: &str, value: &Term) -> Result<Entry<Name
     Ok(Entry {
         key: Name::new(alloc, key)?,
         side: Side::of(value),
-        value: text(value).copy(alloc)?,
+        value: value.text().copy(alloc)?,
     })
 }
 

@@ -1,7 +1,6 @@
 //! The terms that a tuple of rows gives.
 ghost use Rattle.std.specs.Prelude.{◌≡◌, is_some, length, map, IfOk};
 ghost use Rattle.std.specs.List.{All, list_all};
-ghost use Rattle.vocabulary.specs.Terms.{text_of};
 ghost use Rattle.mapping_facts.specs.Facts.{term_at};
 ghost use Rattle.mapping_facts.specs.Fits.{TermFits};
 ghost use Rattle.mapping_facts.specs.RowQueries.{are_apart, is_defined, terms_at};
@@ -14,21 +13,21 @@ use source_tables::Table;
 use std::alloc::{AllocError, Global};
 use vocabulary::{List, Name, Term};
 
-// The cells at these places over one tuple.
+/// The cells at these places over one tuple.
 #[derive(Clone, Copy)]
-struct PlacedCells<'a> {
-    places: &'a [Place],
-    query: &'a SourceQuery,
-    tables: &'a [Table],
-    rows: &'a [u32],
+pub struct PlacedCells<'a> {
+    pub places: &'a [Place],
+    pub query: &'a SourceQuery,
+    pub tables: &'a [Table],
+    pub rows: &'a [u32],
 }
 
 impl HoleCells for PlacedCells<'_> {
     ghost cells = { λ c. map (cell_of c.tables.now c.query.now.tables c.rows.now) c.places.now };
 
     fn hole(&self, i: u32) -> Option<&str> {
-        let place = self.places[i as usize];
-        cell_at(self.query, self.tables, self.rows, place)
+        let place = self.places.get(i as usize)?;
+        cell_at(self.query, self.tables, self.rows, *place)
     }
 }
 
@@ -73,7 +72,7 @@ pub fn terms_of(
     requires { All (TermFits (length query.now.tables)) head.now }
     ensures { IfOk result (λ found. found ≡ terms_at (cell_of tables.now query.now.tables rows.now) head.now) }
 {
-    let mut terms = List::new(alloc);
+    let mut terms = List::from_vec(Vec::with_capacity(alloc, head.len())?);
     for term in head {
         match term_of(alloc, term, query, tables, rows)? {
             Some(found) => terms.push(found)?,
@@ -102,16 +101,6 @@ pub fn is_defined(term: &RowTerm, query: &SourceQuery, tables: &[Table], rows: &
     }
 }
 
-pub(crate) fn text_of(term: &Term) -> &str
-    ensures { result.now ≡ text_of term.now }
-{
-    match term {
-        Term::Named(text) => text.text(),
-        Term::Value(_, text) => text.text(),
-        Term::New(_, _, parent) => text_of(parent.get()),
-    }
-}
-
 /// Whether both terms are defined, and have different texts.
 pub fn are_apart(
     alloc: Global,
@@ -126,7 +115,7 @@ pub fn are_apart(
     let first = term_of(alloc, &pair.0, query, tables, rows)?;
     let second = term_of(alloc, &pair.1, query, tables, rows)?;
     match (&first, &second) {
-        (Some(a), Some(b)) => Ok(text_of(a) != text_of(b)),
+        (Some(a), Some(b)) => Ok(!a.text().same(b.text())),
         _ => Ok(false),
     }
 }

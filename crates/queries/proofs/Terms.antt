@@ -5,14 +5,9 @@ use Rattle.std.specs.Ordering.{nat_cmp, ordering_then}
 use Rattle.vocabulary.specs.declared.ids.LinkId.{LinkId}
 use Rattle.vocabulary.specs.declared.ids.Dir.{Dir}
 use Rattle.vocabulary.specs.declared.term.Term.{Term, New, New', Named, Value, end_of-Term, more_of-Term}
-use Rattle.vocabulary.specs.Terms.{text_of}
 use Rattle.vocabulary.specs.Texts.{text_cmp}
 use Rattle.vocabulary.proofs.Fresh.{open_new}
 use Rattle.queries.specs.Order.{births, dir_rank, term_rank}
-
-pub text_new : (p : LinkId) (d : Dir) (t : Term) → text_of (New p d t) ≡ text_of t
-unfolding open_new
-text_new p d t = refl
 
 pub rank_new : (p : LinkId) (d : Dir) (t : Term) → term_rank (New p d t) ≡ term_rank t
 unfolding open_new

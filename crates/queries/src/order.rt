@@ -2,7 +2,6 @@
 ghost use Rattle.std.specs.Prelude.{◌≡◌, ◌+◌};
 ghost use Rattle.std.specs.Ordering.{is_eq, is_le};
 ghost use Rattle.std.specs.Cmp.Lexicographic.{slice_cmp};
-ghost use Rattle.vocabulary.specs.Terms.{text_of};
 ghost use Rattle.vocabulary.specs.Texts.{text_cmp};
 ghost use Rattle.queries.specs.Order.{arg_cmp, atom_cmp, births, dir_rank, kind_rank, query_cmp, term_cmp, term_rank, tuple_cmp};
 
@@ -108,18 +107,8 @@ fn compare_atoms(xs: &[Atom], ys: &[Atom]) -> Ordering
 pub fn compare_terms(t: &Term, u: &Term) -> Ordering
     ensures { result ≡ term_cmp t.now u.now }
 {
-    let texts = text(t).as_bytes().cmp(text(u).as_bytes());
+    let texts = t.text().text().as_bytes().cmp(u.text().text().as_bytes());
     texts.then(rank(t).cmp(&rank(u)).then(compare_births(t, u)))
-}
-
-fn text(term: &Term) -> &str
-    ensures { result.now ≡ text_of term.now }
-{
-    match term {
-        Term::Named(text) => text.text(),
-        Term::Value(_, text) => text.text(),
-        Term::New(_, _, parent) => text(parent.get()),
-    }
 }
 
 fn rank(term: &Term) -> u8

@@ -7,7 +7,7 @@ use Rattle.std.proofs.lemmas.Bool.{and_parts}
 use Rattle.std.proofs.lemmas.Bool.Decides.{same_from_decides}
 use Rattle.std.proofs.lemmas.Slice.Eq.{bytes_eq-Decides}
 use Rattle.std.proofs.lemmas.Str.{encode_ascii, encode_same, chars-encodes}
-use Rattle.civil_values.specs.Texts.{is_xml_char}
+use Rattle.vocabulary.specs.Texts.{is_xml_char}
 use Rattle.source_tables.specs.Cells.{Cell, HasText}
 use Rattle.source_tables.specs.Tables.{cell_same, cells_same}
 use Rattle.source_tables.specs.Loading.{key_text}

@@ -4,7 +4,7 @@ use Rattle.std.specs.List.{list_all}
 use Rattle.std.proofs.lemmas.Iterator.{YieldsList-from_chars}
 use Rattle.std.proofs.lemmas.Iterator.Search.{all_from_yields_List}
 use Rattle.std.proofs.lemmas.Bool.{lt-ltb, eqb-false}
-use Rattle.civil_values.specs.Texts.{is_xml_char}
+use Rattle.vocabulary.specs.Texts.{is_xml_char}
 use Rattle.civil_values.proofs.text.is_text.Goals as goal
 
 pub returns-then-not-is_empty : goal.returns-then-not-is_empty
