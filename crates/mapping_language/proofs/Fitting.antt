@@ -90,6 +90,7 @@ module _ (s : Sources) (m : MapLine) (some : 0 < length m.sources) where
         let n : length (tables_of s m) ≡ length m.sources = length-map m.sources _ in
         let few : length (flat_map (targets_of class_of link_of s m) m.targets) ≤ length m.targets = as_many m.targets in
         record {
+          some = rw n (omega (arith, some));
           tables = rw n within.tables;
           query = rw n (All-map (ConditionFits (length m.sources)) (condition_of s m) m.conditions (λ k d lt. condition_fits (get_or m.conditions k d)));
           targets = rw n (targets_fit m.targets);
