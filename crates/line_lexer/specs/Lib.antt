@@ -7,3 +7,4 @@ pub mod Grammar
 pub mod Faults
 pub mod Runs
 pub mod Judging
+pub mod Names
