@@ -147,35 +147,3 @@ fn stretch(text: &str, start: usize, end: usize) -> Option<&str>
         None
     }
 }
-
-#[cfg(test)]
-mod tests {
-    use super::*;
-    use std::test::Fail;
-
-    #[test]
-    fn lends_what_was_pushed(rt: HostRuntime) -> Result<(), Fail> {
-        let mut cells = Cells::new(rt.alloc(), 2);
-        let rows = [
-            [Some("a"), None],
-            [Some(""), Some("b\nc")],
-            [None, Some("\u{e9}\u{20ac}")],
-        ];
-        for row in rows {
-            for cell in row {
-                assert!(rt; cells.rows() < 1_000_000);
-                cells.push(cell)?;
-            }
-        }
-        assert_eq!(rt; cells.rows(), 3);
-        assert_eq!(rt; cells.cols(), 2);
-        assert_eq!(rt; cells.pending(), 0);
-        assert!(rt; cells.cell(0, 0) == Some("a") && cells.cell(0, 1) == None);
-        assert!(rt; cells.cell(1, 0) == Some("") && cells.cell(1, 1) == Some("b\nc"));
-        assert!(rt; cells.cell(2, 0) == None && cells.cell(2, 1) == Some("\u{e9}\u{20ac}"));
-        cells.push(Some("d"))?;
-        assert_eq!(rt; cells.rows(), 3);
-        assert_eq!(rt; cells.pending(), 1);
-        Ok(())
-    }
-}

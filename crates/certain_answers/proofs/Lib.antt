@@ -2,4 +2,3 @@ pub mod Certain
 pub mod Gained
 pub mod InOrder
 pub mod Known
-mod Queries

@@ -5,8 +5,6 @@ mod answer_list;
 mod answering;
 mod collecting;
 mod ordering;
-#[cfg(test)]
-mod tests;
 
 pub use answer_list::Answers;
 pub use answering::answers;

@@ -26,6 +26,3 @@ pub use text::is_text;
 pub use time::{Millis, read_time};
 pub use time_text::write_time;
 pub use truth::read_bool;
-
-#[cfg(test)]
-mod tests;

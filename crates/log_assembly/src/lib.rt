@@ -9,8 +9,6 @@ pub mod laws;
 mod lookup;
 mod occurrences;
 mod reporting;
-#[cfg(test)]
-mod tests;
 mod traces;
 mod verdict;
 

@@ -7,8 +7,6 @@ mod extend;
 mod put;
 mod shift;
 mod source;
-#[cfg(test)]
-mod tests;
 mod unfolded;
 mod unfolding;
 

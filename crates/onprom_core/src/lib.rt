@@ -1,8 +1,6 @@
 //! The top call: words in, a status out, and what is written on the way.
 #![tactic(auto)]
 
-#[cfg(test)]
-mod conference;
 mod deciding;
 mod deliver;
 mod extraction;
@@ -10,8 +8,6 @@ mod halt;
 mod lines;
 mod reading;
 mod status;
-#[cfg(test)]
-mod tests;
 mod top;
 
 pub use halt::Stopped;

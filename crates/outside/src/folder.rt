@@ -78,37 +78,3 @@ impl<'a, R: Files> Shelf for FolderShelf<'a, R> {
         }
     }
 }
-
-#[cfg(test)]
-mod tests {
-    use crate::{FileFault, FolderShelf, read_file};
-    use std::fs;
-    use std::test::Fail;
-
-    #[test]
-    fn reads_real_files_and_counts_what_went_wrong(rt: HostRuntime) -> Result<(), Fail> {
-        let name = "outside_folder_shelf.txt";
-        fs::write(&rt, name, "one,two\n")?;
-        let mut shelf = FolderShelf::new(&rt);
-        let bytes = read_file(rt.alloc(), &mut shelf, name, 8)?;
-        assert_eq!(rt; bytes.slice(), b"one,two\n".as_slice());
-
-        // A folder opens and cannot be read; a name that leads through a file does not open.
-        let cases = [
-            (name, FileFault::TooLong, 0, 0),
-            ("outside_no_such_file.txt", FileFault::Absent, 0, 1),
-            (".", FileFault::Read, 1, 1),
-            ("outside_folder_shelf.txt/name", FileFault::Read, 2, 1),
-        ];
-        for (name, fault, faults, absences) in cases {
-            let answer = read_file(rt.alloc(), &mut shelf, name, 7).err();
-            assert_eq!(rt; answer, Some(fault));
-            assert!(rt;
-                shelf.faults == faults && shelf.absences == absences,
-                "{name}"
-            );
-        }
-        fs::remove_file(&rt, name)?;
-        Ok(())
-    }
-}

@@ -17,8 +17,6 @@ pub mod sink;
 mod stream;
 mod sure_shelf;
 mod sure_sink;
-#[cfg(test)]
-mod tests;
 mod words;
 mod write;
 

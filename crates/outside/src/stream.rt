@@ -41,26 +41,3 @@ impl<W: Write + Drop> Sink for StreamSink<W> {
         }
     }
 }
-
-#[cfg(test)]
-mod tests {
-    use crate::{Sink, StreamSink, write_all};
-    use std::fs;
-    use std::test::Fail;
-
-    #[test]
-    fn writes_real_files_and_counts_what_went_wrong(rt: HostRuntime) -> Result<(), Fail> {
-        let name = "outside_stream_sink.txt";
-        let mut sink = StreamSink::new(fs::create(&rt, name)?);
-        assert!(rt; write_all(&mut sink, b"events 2\n").is_ok());
-        assert!(rt; sink.write(b"").is_ok() && sink.faults == 0);
-        let text = fs::read_to_string(&rt, name)?;
-        assert_eq!(rt; text.as_str(), "events 2\n");
-
-        // A file that was opened to be read takes nothing.
-        let mut closed = StreamSink::new(fs::open(&rt, name)?);
-        assert!(rt; write_all(&mut closed, b"x").is_err() && closed.faults == 1);
-        fs::remove_file(&rt, name)?;
-        Ok(())
-    }
-}

@@ -70,29 +70,3 @@ fn first_not_less(atoms: &[Atom], atom: &Atom) -> Option<usize>
 {
     atoms.iter().position(|other| atom.compare(other).is_le())
 }
-
-#[cfg(test)]
-mod tests {
-    use super::*;
-    use vocabulary::{LinkId, VarId};
-
-    // Two atoms of which each has a variable that stands once are one atom.
-    #[test]
-    fn repeated_atoms_are_one(rt: HostRuntime) -> Result<(), AllocError> {
-        let alloc = rt.alloc();
-        let atoms = vec![in alloc; about(1), about(2)]?;
-        let head = vec![in alloc; Arg::Var(VarId(0))]?;
-        let query = Query {
-            head: List::from_vec(head),
-            atoms: List::from_vec(atoms),
-        };
-        let normal = query.normal(alloc)?;
-        assert!(rt; normal.atoms.len() == 1);
-        assert!(rt; normal.compare(&query).is_lt());
-        Ok(())
-    }
-
-    fn about(v: u32) -> Atom {
-        Atom::Linked(LinkId(0), Arg::Var(VarId(0)), Arg::Var(VarId(v)))
-    }
-}

@@ -77,29 +77,3 @@ pub(crate) fn replace(alloc: Global, var: VarId, by: &Arg, arg: &Arg) -> Result<
         _ => arg.copy(alloc),
     }
 }
-
-#[cfg(test)]
-mod tests {
-    use super::*;
-    use vocabulary::ClassId;
-
-    #[test]
-    fn replaces_in_head_and_atoms(rt: HostRuntime) -> Result<(), AllocError> {
-        let alloc = rt.alloc();
-        let query = of_variable(alloc, 7)?;
-        let replaced = query.substitute(alloc, VarId(7), &Arg::Var(VarId(3)))?;
-        let want = of_variable(alloc, 3)?;
-        assert!(rt; replaced.compare(&want).is_eq());
-        assert!(rt; query.copy(alloc)?.compare(&query).is_eq());
-        Ok(())
-    }
-
-    fn of_variable(alloc: Global, v: u32) -> Result<Query, AllocError> {
-        let atoms = vec![in alloc; Atom::InClass(ClassId(0), Arg::Var(VarId(v)))]?;
-        let head = vec![in alloc; Arg::Var(VarId(v))]?;
-        Ok(Query {
-            head: List::from_vec(head),
-            atoms: List::from_vec(atoms),
-        })
-    }
-}

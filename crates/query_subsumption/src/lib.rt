@@ -7,8 +7,6 @@ mod mapping;
 mod numbering;
 mod search;
 mod symbols;
-#[cfg(test)]
-mod tests;
 
 pub use kept::drop_subsumed;
 pub use mapping::maps_into;

@@ -16,6 +16,3 @@ pub use fault::TableFault;
 pub use loading::load;
 pub use table::{Table, have_texts};
 pub use value::read_value;
-
-#[cfg(test)]
-mod tests;

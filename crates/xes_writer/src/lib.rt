@@ -2,8 +2,6 @@
 #![tactic(auto)]
 
 mod log;
-#[cfg(test)]
-mod tests;
 mod text;
 
 pub use log::{Entry, EventRow, Log, TraceRow};
