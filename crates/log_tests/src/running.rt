@@ -1,0 +1,342 @@
+//! The top call over files and sinks in memory. The texts are those of the first example.
+use crate::conference;
+use onprom_core::{Status, run};
+use outside::{MemoryShelf, MemorySink, Shelf, Sink, SureShelf, SureSink, Words};
+use std::alloc::{AllocError, Global};
+use std::test::Fail;
+
+const PROJECT: &str = "onprom 1
+table doc \"doc.csv\"
+column doc id text
+column doc made time
+class Doc
+attr Doc made time *
+map m from doc a then Doc(iri \"http://e/{a.id}\"), made(iri \"http://e/{a.id}\", a.made)
+case v where Doc(v)
+event create v where Doc(v)
+cases create (v, v) where Doc(v)
+set create \"concept:name\" mandatory is text \"create\"
+set create \"time:timestamp\" mandatory (v, w) where made(v, w)
+";
+
+const TABLE: &str = "id,made\nb,2024-01-02T03:04:05.006+00:00\na,\n";
+
+const TABLE_OF_TWO_TIMES: &str =
+    "id,made\nb,2024-01-02T03:04:05.006+00:00\na,\nb,2024-01-03T00:00:00.000+00:00\n";
+
+const FRONT: &str = "<?xml version=\"1.0\" encoding=\"UTF-8\"?>
+<log xes.version=\"1849.2016\" xes.features=\"\">
+  <extension name=\"Concept\" prefix=\"concept\" uri=\"http://www.xes-standard.org/concept.xesext\"/>
+  <extension name=\"Time\" prefix=\"time\" uri=\"http://www.xes-standard.org/time.xesext\"/>
+  <extension name=\"Organizational\" prefix=\"org\" uri=\"http://www.xes-standard.org/org.xesext\"/>
+  <extension name=\"Lifecycle\" prefix=\"lifecycle\" uri=\"http://www.xes-standard.org/lifecycle.xesext\"/>
+  <trace>
+    <string key=\"object\" value=\"http://e/a\"/>
+    <string key=\"concept:name\" value=\"http://e/a\"/>
+  </trace>
+  <trace>
+    <string key=\"object\" value=\"http://e/b\"/>
+    <string key=\"concept:name\" value=\"http://e/b\"/>
+";
+
+const EVENT: &str = "    <event>
+      <string key=\"object\" value=\"http://e/b\"/>
+      <string key=\"concept:name\" value=\"create\"/>
+      <date key=\"time:timestamp\" value=\"2024-01-02T03:04:05.006+00:00\"/>
+    </event>
+";
+
+const BACK: &str = "  </trace>\n</log>\n";
+
+const USAGE: &str =
+    "usage: extract P | check P | verify P D | answer P Q | rewrite P Q | make N F\n";
+
+fn words_of(alloc: Global, all: &str) -> Result<Words, AllocError> {
+    let mut words = Words::new(alloc);
+    for word in all.split_whitespace() {
+        words.push(word)?;
+    }
+    Ok(words)
+}
+
+fn shelf_of(alloc: Global, files: &[(&str, &str)]) -> Result<SureShelf, AllocError> {
+    let mut shelf = SureShelf::new(alloc);
+    for (name, text) in files {
+        if !shelf.holds(name) {
+            shelf.add_file(name, text.as_bytes())?;
+        }
+    }
+    Ok(shelf)
+}
+
+// Whether the command ends so over the shelf, with this text and this report.
+fn ends<S: Shelf>(
+    alloc: Global,
+    shelf: &mut S,
+    words: &str,
+    status: Status,
+    text: &str,
+    line: &str,
+) -> Result<bool, AllocError> {
+    let words = words_of(alloc, words)?;
+    let mut out = SureSink::new(alloc);
+    let mut report = SureSink::new(alloc);
+    let ended = run(alloc, &words, shelf, &mut out, &mut report);
+    Ok(ended == status && out.written() == text.as_bytes() && report.written() == line.as_bytes())
+}
+
+// The same over files.
+fn ends_over(
+    alloc: Global,
+    files: &[(&str, &str)],
+    words: &str,
+    status: Status,
+    text: &str,
+    line: &str,
+) -> Result<bool, AllocError> {
+    let mut shelf = shelf_of(alloc, files)?;
+    ends(alloc, &mut shelf, words, status, text, line)
+}
+
+fn writes_first_log(
+    alloc: Global,
+    table: &str,
+    event: &str,
+    report: &str,
+) -> Result<bool, AllocError> {
+    let text = format!(in alloc; "{FRONT}{event}{BACK}")?;
+    let files = [("p1.txt", PROJECT), ("doc.csv", table)];
+    ends_over(
+        alloc,
+        &files,
+        "extract p1.txt",
+        Status::Done,
+        text.as_str(),
+        report,
+    )
+}
+
+#[test]
+fn writes_the_log_of_the_first_example(rt: HostRuntime) -> Result<(), Fail> {
+    let report =
+        "traces 2 events 1 left out 1\nleft out: create <http://e/a>: none time:timestamp\n";
+    assert!(rt; writes_first_log(rt.alloc(), TABLE, EVENT, report)?);
+    Ok(())
+}
+
+#[test]
+fn leaves_out_an_object_of_two_times(rt: HostRuntime) -> Result<(), Fail> {
+    let report = "traces 2 events 0 left out 2
+left out: create <http://e/a>: none time:timestamp
+left out: create <http://e/b>: several time:timestamp
+";
+    assert!(rt; writes_first_log(rt.alloc(), TABLE_OF_TWO_TIMES, "", report)?);
+    Ok(())
+}
+
+fn writes_the_conference(alloc: Global) -> Result<bool, AllocError> {
+    let files = [
+        ("conf.txt", conference::PROJECT),
+        ("paper.csv", conference::PAPER),
+        ("person.csv", conference::PERSON),
+        ("review.csv", conference::REVIEW),
+    ];
+    let (log, report) = (conference::LOG, conference::REPORT);
+    ends_over(alloc, &files, "extract conf.txt", Status::Done, log, report)
+}
+
+#[test]
+fn writes_the_log_of_the_conference(rt: HostRuntime) -> Result<(), Fail> {
+    assert!(rt; writes_the_conference(rt.alloc())?);
+    Ok(())
+}
+
+fn refuses(alloc: Global, files: &[(&str, &str)], line: &str) -> Result<bool, AllocError> {
+    ends_over(alloc, files, "extract p", Status::Refused, "", line)
+}
+
+#[test]
+fn refuses_with_the_first_fault_of_the_project(rt: HostRuntime) -> Result<(), Fail> {
+    let cases = [
+        ("", "refused: p line 1: Syntax\n"),
+        ("# none\n\nclass A\n", "refused: p line 3: Syntax\n"),
+        (
+            "onprom 1\r\nclass A\r\nclass A",
+            "refused: p line 3: Double\n",
+        ),
+        (
+            "onprom 1\ncolumn t c text\n",
+            "refused: p line 2: Unknown\n",
+        ),
+        (
+            "onprom 1\nclass A\nattr A u int 0..1\n",
+            "refused: p line 3: NotBuilt\n",
+        ),
+        ("onprom 1\nclass A\n", "refused: p line 0: NoCase\n"),
+        (
+            "onprom 1\nclass A\ncase v where A(v)\nevent e v where A(v)\n",
+            "refused: p line 4: NoCases\n",
+        ),
+    ];
+    for (project, line) in cases {
+        assert!(rt; refuses(rt.alloc(), &[("p", project)], line)?, "{line}");
+    }
+    Ok(())
+}
+
+fn refuses_table(alloc: Global, table: &str, line: &str) -> Result<bool, AllocError> {
+    let project = format!(in alloc; "{PROJECT}key doc (id)\n")?;
+    refuses(alloc, &[("p", project.as_str()), ("doc.csv", table)], line)
+}
+
+#[test]
+fn refuses_with_the_first_fault_of_a_table(rt: HostRuntime) -> Result<(), Fail> {
+    let cases = [
+        ("", "refused: doc.csv column id: Header\n"),
+        ("id,made\na,\nb\n", "refused: doc.csv row 2: Width\n"),
+        (
+            "id,made\nb,soon\n",
+            "refused: doc.csv row 1 column made: BadCell\n",
+        ),
+        ("made,id\n,\n", "refused: doc.csv row 1: NullKey\n"),
+        (
+            "id,made\na,\nb,\na,\n",
+            "refused: doc.csv rows 1 3: DoubleKey\n",
+        ),
+    ];
+    for (table, line) in cases {
+        assert!(rt; refuses_table(rt.alloc(), table, line)?, "{line}");
+    }
+    Ok(())
+}
+
+fn names_the_limit_of_lines(alloc: Global) -> Result<bool, AllocError> {
+    let mut project = String::from_str(alloc, "onprom 1")?;
+    for _ in 0..20_000 {
+        project.push_str("\nclass A")?;
+    }
+    let files = [("p", project.as_str())];
+    ends_over(
+        alloc,
+        &files,
+        "extract p",
+        Status::Limit,
+        "",
+        "limit: lines\n",
+    )
+}
+
+#[test]
+fn names_a_limit_that_is_passed(rt: HostRuntime) -> Result<(), Fail> {
+    assert!(rt; names_the_limit_of_lines(rt.alloc())?);
+    Ok(())
+}
+
+// The project alone is on the shelf.
+fn ends_early(alloc: Global, words: &str, status: Status, line: &str) -> Result<bool, AllocError> {
+    ends_over(alloc, &[("p", PROJECT)], words, status, "", line)
+}
+
+#[test]
+fn names_what_is_absent_and_what_is_no_command(rt: HostRuntime) -> Result<(), Fail> {
+    for (words, status, line) in [
+        ("extract q", Status::Absent, "absent: q\n"),
+        ("extract p", Status::Absent, "absent: doc.csv\n"),
+        ("", Status::Usage, USAGE),
+        ("extract", Status::Usage, USAGE),
+        ("extract a b", Status::Usage, USAGE),
+        ("Extract p", Status::Usage, USAGE),
+    ] {
+        assert!(rt; ends_early(rt.alloc(), words, status, line)?, "{words}");
+    }
+    Ok(())
+}
+
+fn failing_shelf(alloc: Global, call: u64) -> Result<MemoryShelf, AllocError> {
+    let mut shelf = MemoryShelf::new(alloc);
+    shelf.fail_at(call)?;
+    for (name, text) in [("p1.txt", PROJECT), ("doc.csv", TABLE)] {
+        if !shelf.holds(name) {
+            shelf.add_file(name, text.as_bytes())?;
+        }
+    }
+    Ok(shelf)
+}
+
+fn names_failed_read(alloc: Global, call: u64, line: &str) -> Result<bool, AllocError> {
+    let mut shelf = failing_shelf(alloc, call)?;
+    ends(
+        alloc,
+        &mut shelf,
+        "extract p1.txt",
+        Status::ReadFault,
+        "",
+        line,
+    )
+}
+
+#[test]
+fn names_the_file_whose_reading_failed(rt: HostRuntime) -> Result<(), Fail> {
+    // A file is begun, read, and read once more to see its end.
+    for (call, line) in [
+        (1, "read fault: p1.txt\n"),
+        (2, "read fault: p1.txt\n"),
+        (4, "read fault: doc.csv\n"),
+        (5, "read fault: doc.csv\n"),
+    ] {
+        assert!(rt; names_failed_read(rt.alloc(), call, line)?, "{call}");
+    }
+    Ok(())
+}
+
+fn failing_sink(alloc: Global, call: u64) -> Result<MemorySink, AllocError> {
+    let mut sink = MemorySink::new(alloc, 64);
+    sink.fail_at(call)?;
+    Ok(sink)
+}
+
+fn leaves_front_of_text(alloc: Global) -> Result<bool, AllocError> {
+    let words = words_of(alloc, "extract p1.txt")?;
+    let mut shelf = shelf_of(alloc, &[("p1.txt", PROJECT), ("doc.csv", TABLE)])?;
+    let mut out = failing_sink(alloc, 2)?;
+    let mut report = failing_sink(alloc, 9)?;
+    let ended = run(alloc, &words, &mut shelf, &mut out, &mut report);
+    Ok(
+        ended == Status::WriteFault
+            && FRONT.as_bytes().starts_with(out.written())
+            && out.written().len() == 64
+            && report.written().len() == 0,
+    )
+}
+
+#[test]
+fn leaves_a_front_where_a_write_failed(rt: HostRuntime) -> Result<(), Fail> {
+    assert!(rt; leaves_front_of_text(rt.alloc())?);
+    Ok(())
+}
+
+fn leaves_front_of_report(alloc: Global) -> Result<bool, AllocError> {
+    let words = words_of(alloc, "check")?;
+    let mut shelf = SureShelf::new(alloc);
+    let mut out = SureSink::new(alloc);
+    let mut report = failing_sink(alloc, 2)?;
+    let ended = run(alloc, &words, &mut shelf, &mut out, &mut report);
+    Ok(ended == Status::ReportFault && report.written().len() == 64)
+}
+
+#[test]
+fn leaves_a_front_where_a_report_failed(rt: HostRuntime) -> Result<(), Fail> {
+    assert!(rt; leaves_front_of_report(rt.alloc())?);
+    Ok(())
+}
+
+#[test]
+fn codes_are_in_order(rt: HostRuntime) {
+    for (status, code) in [
+        (Status::Done, 0),
+        (Status::Usage, 2),
+        (Status::NotAccepted, 10),
+    ] {
+        assert!(rt; status.code() == code);
+    }
+}
