@@ -1,6 +1,10 @@
 //! A made project of any size: its files as functions of a number.
 #![tactic(auto)]
 
+mod files;
 mod project;
+mod tables;
 
+pub use files::file;
 pub use project::project_text;
+pub use tables::{doc_text, step_text};
