@@ -5,6 +5,6 @@ mod files;
 mod project;
 mod tables;
 
-pub use files::file;
+pub use files::{file, shelf};
 pub use project::project_text;
 pub use tables::{doc_text, step_text};
