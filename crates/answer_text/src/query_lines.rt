@@ -9,6 +9,7 @@ use std::alloc::{AllocError, Global};
 use vocabulary::{List, Name, Term};
 
 /// The names by which queries are printed, each by its number; a number without a name prints nothing.
+#[derive(Clone, Copy, Debug)]
 pub struct QueryNames<'a> {
     pub variables: &'a [Name],
     pub classes: &'a [Name],
