@@ -3,8 +3,10 @@
 
 mod files;
 mod project;
+mod summary;
 mod tables;
 
 pub use files::{file, shelf};
 pub use project::project_text;
+pub use summary::first_line;
 pub use tables::{doc_text, step_text};
