@@ -2,6 +2,7 @@
 use Rattle.std.proofs.Common.{◌≡◌, refl, Some, None, codes}
 use Rattle.std.specs.Fmt.{digits}
 use Rattle.big_project.specs.Files.{doc_file, doc_line, step_line, file_of, step_file}
+use Rattle.big_project.specs.Summary.{first_line}
 
 docs : file_of 3 (codes "doc.csv") ≡ Some (codes "id,made\n1,2024-01-02T01:00\n2,2024-01-03T02:00\n3,2024-01-04T03:00\n")
 unfolding doc_file digits
@@ -26,3 +27,6 @@ wraps = refl
 
 no_such_file : file_of 3 (codes "doc.txt") ≡ None
 no_such_file = refl
+
+summary : first_line (codes "traces 3 events 8 left out 1\nincomplete work\n") ≡ codes "traces 3 events 8 left out 1\n"
+summary = refl

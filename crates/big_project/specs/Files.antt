@@ -1,6 +1,6 @@
 -- The files of the made project of n documents.
-use Rattle.std.specs.Prelude.{ℕ, ◌+◌, ◌*◌, ◌/◌, ◌%◌, ◌==◌, if◌then◌else◌, List, [], ◌∷◌, ◌++◌, Option, Some, None, codes, decimal}
-use Rattle.std.specs.List.{flat_map, range_with_len}
+use Rattle.std.specs.Prelude.{ℕ, ◌+◌, ◌*◌, ◌/◌, ◌%◌, ◌==◌, if◌then◌else◌, List, [], ◌∷◌, ◌++◌, Option, Some, None, option_map, codes, decimal}
+use Rattle.std.specs.List.{filter_map, flat_map, range_with_len}
 use Rattle.std.specs.Str.{bytes_eq}
 
 -- the project text: documents with a time, and steps of documents with a time and an unknown actor
@@ -36,3 +36,13 @@ file_of n name =
     if bytes_eq name (codes "project.txt") then Some project_file
     else (if bytes_eq name (codes "doc.csv") then Some (doc_file n)
     else (if bytes_eq name (codes "step.csv") then Some (step_file n) else None))
+
+-- the three files by their names
+abbrev pub with_file : ℕ → List ℕ → List (List ℕ × List ℕ) → List (List ℕ × List ℕ)
+with_file n name files = filter_map (λ text. text) (made n name ∷ []) ++ files
+  where
+    made : ℕ → List ℕ → Option (List ℕ × List ℕ)
+    made n name = option_map (λ text. (name, text)) (file_of n name)
+
+abbrev pub made_files : ℕ → List (List ℕ × List ℕ)
+made_files n = with_file n (codes "project.txt") (with_file n (codes "doc.csv") (with_file n (codes "step.csv") []))
