@@ -8,10 +8,10 @@ use Rattle.vocabulary.specs.declared.term.Fact.{Fact}
 use Rattle.vocabulary.specs.Lists.{In, here, there, item}
 use Rattle.dllite_axioms.specs.declared.axioms.Axiom.{Axiom}
 use Rattle.dllite_axioms.specs.declared.axioms.Constraint.{Constraint}
-use Rattle.dllite_axioms.specs.declared.axioms.Constraint.TheVariants.{Disjoint, Func}
+use Rattle.dllite_axioms.specs.declared.axioms.Constraint.TheVariants.{Apart, Disjoint, Func, Identified}
 use Rattle.dllite_axioms.specs.declared.axioms.Tbox.{Tbox}
 use Rattle.dllite_axioms.specs.Chase.{apply_of}
-use Rattle.dllite_axioms.specs.Clashes.{Clash}
+use Rattle.dllite_axioms.specs.Clashes.{AreTwo, Clash}
 use Rattle.source_tables.specs.Tables.{Loaded}
 use Rattle.mapping_facts.specs.declared.mapping.Mapping.{Mapping}
 use Rattle.mapping_facts.specs.declared.mapping.Target.{Target}
@@ -124,9 +124,16 @@ items_told {X} xs (n ∷ numbers) found e =
     mapped x None h = cc
     mapped x (Some more) h = (more, refl, cc)
 
+are_two : (R : Fact → Fact → Type 0) (facts : List Fact) → AreTwo R facts → 2 ≤ length facts
+are_two R [] h = absurd h
+are_two R (f ∷ []) h = absurd h
+are_two R (f ∷ g ∷ more) h = omega arith
+
 clash_two : (c : Constraint) (facts : List Fact) → Clash c facts → 2 ≤ length facts
-clash_two (Disjoint b c) facts h = let long = ap length h.2 in omega (arith, long)
-clash_two (Func p d) facts h = let long = ap length h.2 in omega (arith, long)
+clash_two (Disjoint b c) facts h = are_two _ facts h
+clash_two (Func p d) facts h = are_two _ facts h
+clash_two (Apart q d p) facts h = are_two _ facts h
+clash_two (Identified a links) facts h = let long = ap length h.3 in omega (arith, long)
 
 some_step : (count : ℕ) (ends : List ℕ) → 2 ≤ length ends → list_all (is_step count) ends ≡ true → 1 ≤ count
 some_step count [] two told = absurd (omega arith)

@@ -100,10 +100,10 @@ module _ (names : List (List ℕ)) where
     where
       target_small : (front : ℕ × List ℕ × ℕ × List Seen) → map_front ts ≡ Some front → front.2 < 2 ^ 32
       target_small front h =
-          let k = bound (λ k. option_and_then (λ rest. option_and_then (λ name. option_and_then (λ target. option_and_then (λ rest. Some (k.0, name.0, target.0, rest)) (expect (codes "rows") target.1)) (small_number name.1)) (any_word rest)) (expect (codes "map") k.1)) (small_number ts) front h in
-          let r = bound (λ rest. option_and_then (λ name. option_and_then (λ target. option_and_then (λ rest. Some (k.0.0, name.0, target.0, rest)) (expect (codes "rows") target.1)) (small_number name.1)) (any_word rest)) (expect (codes "map") k.0.1) front k.2 in
-          let n = bound (λ name. option_and_then (λ target. option_and_then (λ rest. Some (k.0.0, name.0, target.0, rest)) (expect (codes "rows") target.1)) (small_number name.1)) (any_word r.0) front r.2 in
-          let t = bound (λ target. option_and_then (λ rest. Some (k.0.0, n.0.0, target.0, rest)) (expect (codes "rows") target.1)) (small_number n.0.1) front n.2 in
+          let k = bound _ (small_number ts) front h in
+          let r = bound _ (expect (codes "map") k.0.1) front k.2 in
+          let n = bound _ (any_word r.0) front r.2 in
+          let t = bound _ (small_number n.0.1) front n.2 in
           let l = bound (λ rest. Some (k.0.0, n.0.0, t.0.0, rest)) (expect (codes "rows") t.0.1) front t.2 in
           let same : t.0.0 ≡ front.2 = ap (λ o. target_of o) l.2 in
           subst (λ m. m < 2 ^ 32) same (front_small n.0.1 t.0 t.1)
@@ -113,18 +113,18 @@ module _ (names : List (List ℕ)) where
           target_of (Some f) = f.2
 
       rows_small : (k : ℕ) (o : Option ℕ) (target : ℕ) (rows : List ℕ) → ((m : ℕ) → o ≡ Some m → (1 ≤ m) × (m ≤ length names)) → target < 2 ^ 32 → AreSmall rows → with_rows k o target rows ≡ Some s → Small s
-      rows_small k o target [] there low all h = absurd cc
-      rows_small k None target (row ∷ rows) there low all h = let same : Mapped k None target (row ∷ rows) ≡ s = cc in subst Small same tt
-      rows_small k (Some m) target (row ∷ rows) there low all h =
+      rows_small k o target [] known low all h = absurd cc
+      rows_small k None target (row ∷ rows) known low all h = let same : Mapped k None target (row ∷ rows) ≡ s = cc in subst Small same tt
+      rows_small k (Some m) target (row ∷ rows) known low all h =
           let same : Mapped k (Some m) target (row ∷ rows) ≡ s = cc in
-          let at = there m refl in
+          let at = known m refl in
           subst Small same (at.0, at.1, low, omega arith, all)
 
   rule_small : (ts : List Seen) → OfKind (rule_line ts)
   rule_small ts s e =
-      let k = bound (λ k. option_and_then (λ rest. option_and_then (λ a. option_and_then (λ rest. option_and_then (λ j. alone (Rule k.0 a.0 j.0) j.1) (small_number rest)) (expect (codes "from") a.1)) (small_number rest)) (expect (codes "rule") k.1)) (small_number ts) s e in
-      let r = bound (λ rest. option_and_then (λ a. option_and_then (λ rest. option_and_then (λ j. alone (Rule k.0.0 a.0 j.0) j.1) (small_number rest)) (expect (codes "from") a.1)) (small_number rest)) (expect (codes "rule") k.0.1) s k.2 in
-      let a = bound (λ a. option_and_then (λ rest. option_and_then (λ j. alone (Rule k.0.0 a.0 j.0) j.1) (small_number rest)) (expect (codes "from") a.1)) (small_number r.0) s r.2 in
+      let k = bound _ (small_number ts) s e in
+      let r = bound _ (expect (codes "rule") k.0.1) s k.2 in
+      let a = bound _ (small_number r.0) s r.2 in
       let f = bound (λ rest. option_and_then (λ j. alone (Rule k.0.0 a.0.0 j.0) j.1) (small_number rest)) (expect (codes "from") a.0.1) s a.2 in
       let j = bound (λ j. alone (Rule k.0.0 a.0.0 j.0) j.1) (small_number f.0) s f.2 in
       subst Small (only (Rule k.0.0 a.0.0 j.0.0) j.0.1 s j.2) (front_small r.0 a.0 a.1)

@@ -80,17 +80,16 @@ onward_ok (Err e) f g same = refl
 abbrev pub lines_said : List (List ℕ) → List (List ℕ) → List Said
 lines_said names lines = filter says_something (map (λ line. said_by names (tokens_of line)) lines)
 
-pub run_of_lines : (names : List (List ℕ)) (line : ℕ) (place : Place) (lines : List (List ℕ)) → ok_of (read_lines names line place lines) ≡ run place (lines_said names lines)
-unfolding read_lines
-run_of_lines names line place [] = ended line place
-run_of_lines names line place (text ∷ lines) = by (said_by names (tokens_of text))
+first_line : (names : List (List ℕ)) (line : ℕ) (place : Place) (lines : List (List ℕ)) → ((p : Place) → ok_of (read_lines names (line + 1) p lines) ≡ run p (lines_said names lines)) → (said : Said) →
+    ok_of (onward (after_line line place said) (λ p. read_lines names (line + 1) p lines)) ≡ run place (filter says_something (said ∷ map (λ l. said_by names (tokens_of l)) lines))
+first_line names line place lines rest = by
   where
     go : (said : Said) → ok_of (onward (after_line line place said) (λ p. read_lines names (line + 1) p lines)) ≡ option_and_then (λ p. run p (lines_said names lines)) (next place said)
     go said =
-        onward_ok (after_line line place said) (λ p. read_lines names (line + 1) p lines) (λ p. run p (lines_said names lines)) (λ p. run_of_lines names (line + 1) p lines)
+        onward_ok (after_line line place said) (λ p. read_lines names (line + 1) p lines) (λ p. run p (lines_said names lines)) rest
         ∙ ap (option_and_then (λ p. run p (lines_said names lines))) (unnumbered line place said)
 
-    by : (said : Said) → ok_of (onward (after_line line place said) (λ p. read_lines names (line + 1) p lines)) ≡ run place (filter says_something (said ∷ map (λ line. said_by names (tokens_of line)) lines))
+    by : (said : Said) → ok_of (onward (after_line line place said) (λ p. read_lines names (line + 1) p lines)) ≡ run place (filter says_something (said ∷ map (λ l. said_by names (tokens_of l)) lines))
     by Nothing = go Nothing
     by (Conflict c) = go (Conflict c)
     by (Mapped k mapping target rows) = go (Mapped k mapping target rows)
@@ -98,3 +97,8 @@ run_of_lines names line place (text ∷ lines) = by (said_by names (tokens_of te
     by (Clash ends) = go (Clash ends)
     by End = go End
     by Unreadable = go Unreadable
+
+pub run_of_lines : (names : List (List ℕ)) (line : ℕ) (place : Place) (lines : List (List ℕ)) → ok_of (read_lines names line place lines) ≡ run place (lines_said names lines)
+unfolding read_lines
+run_of_lines names line place [] = ended line place
+run_of_lines names line place (text ∷ lines) = first_line names line place lines (λ p. run_of_lines names (line + 1) p lines) (said_by names (tokens_of text))

@@ -1,4 +1,4 @@
-use Rattle.derivation_text.proofs.Grammar.{reading_is_spelling}
+use Rattle.derivation_text.proofs.ReadBack.{reading_is_spelling}
 use Rattle.derivation_text.proofs.laws.reading_is_spelling.Goals as goal
 
 pub returns : goal.returns

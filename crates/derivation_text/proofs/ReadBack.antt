@@ -1,5 +1,5 @@
 -- What is read is well formed, and its text spells it.
-use Rattle.std.proofs.Common.{◌≡◌, refl, sym, ◌∙◌, ap, subst, ℕ, ◌+◌, ◌<◌, ◌≤◌, ◌==◌, ◌&&◌, ◌||◌, not, nat_lt, nat_le, Bool, true, false, if◌then◌else◌, List, [], ◌∷◌, ◌++◌, append_assoc, filter, length, length-append, map, Option, Some, None, Ok, Err, inl, inr, arith}
+use Rattle.std.proofs.Common.{◌≡◌, refl, sym, ◌∙◌, ap, subst, ℕ, ◌+◌, ◌<◌, ◌≤◌, ◌^◌, ◌==◌, ◌&&◌, ◌||◌, not, nat_lt, nat_le, Bool, true, false, if◌then◌else◌, List, [], ◌∷◌, ◌++◌, append_assoc, filter, length, length-append, map, Option, Some, None, Ok, Err, inl, inr, arith}
 use Rattle.std.specs.Prelude.{option_and_then}
 use Rattle.std.specs.List.{flat_map, list_all}
 use Rattle.std.proofs.lemmas.Bool.{and_parts, eqb-true, leb-true, ltb-true}
@@ -134,38 +134,47 @@ reached count (Ended done) Unreadable p some low sound e = absurd cc
 abbrev AreSmallSaids : ℕ → List Said → Type 0
 AreSmallSaids count saids = (s : Said) → In s saids → (says_something s ≡ true) × IsSmallSaid count s
 
-ran : (count : ℕ) (place : Place) (saids : List Said) (ds : List Derivation) → AreSmallSaids count saids → IsSound count place → run place saids ≡ Some ds →
-    (1 ≤ length ds) × AreWellFormed count ds × (so_far place ++ saids ≡ derivations_said ds)
+-- what is read is well formed, and all that was said is its lines
+abbrev IsRead : ℕ → Place → List Said → List Derivation → Type 0
+IsRead count place saids ds = (1 ≤ length ds) × AreWellFormed count ds × (so_far place ++ saids ≡ derivations_said ds)
+
+ran_on : (count : ℕ) (place : Place) (said : Said) (more : List Said) (ds : List Derivation) → says_something said ≡ true → IsSmallSaid count said → IsSound count place →
+    ((p : Place) → IsSound count p → run p more ≡ Some ds → IsRead count p more ds) → (o : Option Place) → next place said ≡ o → option_and_then (λ p. run p more) o ≡ Some ds → IsRead count place (said ∷ more) ds
+ran_on count place said more ds some low sound behind None is h = absurd cc
+ran_on count place said more ds some low sound behind (Some p) is h =
+    let r = reached count place said p some low sound is in
+    let rest = behind p r.0 h in
+    (rest.0, rest.1, sym (append_assoc (so_far place) (said ∷ []) more) ∙ ap (λ front. front ++ more) (sym r.1) ∙ rest.2)
+
+ran : (count : ℕ) (place : Place) (saids : List Said) (ds : List Derivation) → AreSmallSaids count saids → IsSound count place → run place saids ≡ Some ds → IsRead count place saids ds
 ran count (Between done) [] ds all sound e = absurd cc
 ran count (Within done c before) [] ds all sound e = absurd cc
 ran count (Ended done) [] ds all sound e =
     let same : done ≡ ds = cc in subst (λ xs. (1 ≤ length xs) × AreWellFormed count xs × (derivations_said done ++ [] ≡ derivations_said xs)) same (sound.1, sound.0, append-nil (derivations_said done))
-ran count place (said ∷ more) ds all sound e = by (next place said) refl e
-  where
-    by : (o : Option Place) → next place said ≡ o → option_and_then (λ p. run p more) o ≡ Some ds → (1 ≤ length ds) × AreWellFormed count ds × (so_far place ++ (said ∷ more) ≡ derivations_said ds)
-    by None is h = absurd cc
-    by (Some p) is h =
-        let first = all said (here refl) in
-        let r = reached count place said p first.0 first.1 sound is in
-        let rest = ran count p more ds (λ s i. all s (there i)) r.0 h in
-        (rest.0, rest.1, sym (append_assoc (so_far place) (said ∷ []) more) ∙ ap (λ front. front ++ more) (sym r.1) ∙ rest.2)
+ran count place (said ∷ more) ds all sound e =
+    let first = all said (here refl) in
+    ran_on count place said more ds first.0 first.1 sound (λ p s h. ran count p more ds (λ t i. all t (there i)) s h) (next place said) refl e
 
-lines_small : (names : List (List ℕ)) (lines : List (List ℕ)) → AreSmallSaids (length names) (lines_said names lines)
-lines_small names [] s i = elim i [ ]
-lines_small names (line ∷ lines) = by (said_by names (tokens_of line)) (said_small names (tokens_of line))
+more_small : (names : List (List ℕ)) (lines : List (List ℕ)) → AreSmallSaids (length names) (lines_said names lines) → (said : Said) → IsSmallSaid (length names) said →
+    AreSmallSaids (length names) (filter says_something (said ∷ map (λ l. said_by names (tokens_of l)) lines))
+more_small names lines all = by
   where
     more : (said : Said) → says_something said ≡ true → IsSmallSaid (length names) said → AreSmallSaids (length names) (said ∷ lines_said names lines)
     more said some low s (here e) = subst (λ t. (says_something t ≡ true) × IsSmallSaid (length names) t) e (some, low)
-    more said some low s (there i) = lines_small names lines s i
+    more said some low s (there i) = all s i
 
     by : (said : Said) → IsSmallSaid (length names) said → AreSmallSaids (length names) (filter says_something (said ∷ map (λ l. said_by names (tokens_of l)) lines))
-    by Nothing low = lines_small names lines
+    by Nothing low = all
     by (Conflict c) low = more (Conflict c) refl low
     by (Mapped k mapping target rows) low = more (Mapped k mapping target rows) refl low
     by (Rule k a j) low = more (Rule k a j) refl low
     by (Clash ends) low = more (Clash ends) refl low
     by End low = more End refl low
     by Unreadable low = more Unreadable refl low
+
+lines_small : (names : List (List ℕ)) (lines : List (List ℕ)) → AreSmallSaids (length names) (lines_said names lines)
+lines_small names [] = λ s i. elim i [ ]
+lines_small names (line ∷ lines) = more_small names lines (lines_small names lines) (said_by names (tokens_of line)) (said_small names (tokens_of line))
 
 read_is_spelled : (names : List (List ℕ)) (text : List ℕ) (ds : List Derivation) → derivations_of names text ≡ Ok ds → (1 ≤ length ds) × AreWellFormed (length names) ds × Spells names text ds
 read_is_spelled names text ds e =
