@@ -1,5 +1,5 @@
 -- The constraint of an accepted derivation is contradicted.
-use Rattle.std.proofs.Common.{◌≡◌, refl, sym, ◌∙◌, ap, subst, ℕ, zero, suc, ◌+◌, ◌-◌, ◌<◌, Bool, true, false, ◌&&◌, List, [], ◌∷◌, ◌++◌, Option, Some, None, arith, length, map, nat_lt, if◌then◌else◌, inl, inr}
+use Rattle.std.proofs.Common.{◌≡◌, refl, sym, ◌∙◌, subst, ℕ, zero, suc, ◌+◌, ◌-◌, Bool, true, false, ◌&&◌, List, [], ◌∷◌, ◌++◌, Option, Some, None, arith, length, map, nat_lt, if◌then◌else◌, inl, inr}
 use Rattle.std.specs.Prelude.{option_and_then, option_map}
 use Rattle.std.proofs.lemmas.Bool.{and_parts, ltb-true}
 use Rattle.vocabulary.specs.declared.ids.TableId.{TableId}
@@ -7,8 +7,6 @@ use Rattle.vocabulary.specs.declared.term.Fact.{Fact}
 use Rattle.vocabulary.specs.Lists.{In, here, there, item}
 use Rattle.vocabulary.proofs.Lists.{In-append_cases}
 use Rattle.dllite_axioms.specs.declared.axioms.Axiom.{Axiom}
-use Rattle.dllite_axioms.specs.declared.axioms.Constraint.{Constraint}
-use Rattle.dllite_axioms.specs.declared.axioms.Tbox.{Tbox}
 use Rattle.dllite_axioms.specs.Chase.{Derived, given, step as by_axiom, apply_of, chase}
 use Rattle.dllite_axioms.specs.Clashes.{IsContradicted}
 use Rattle.dllite_axioms.proofs.ChaseLaws.{chase_grows, stands_where_derived}
@@ -17,13 +15,12 @@ use Rattle.mapping_facts.specs.declared.mapping.Mapping.{Mapping}
 use Rattle.mapping_facts.specs.declared.mapping.Target.{Target}
 use Rattle.mapping_facts.specs.Facts.{mapped_facts, mapping_fact, fact_at}
 use Rattle.mapping_facts.specs.Tuples.{cell_of, satisfies, table_rows}
-use Rattle.mapping_facts.proofs.Facts.{Mapped, in_mapped, fact_gives}
+use Rattle.mapping_facts.proofs.Facts.{in_mapped, fact_gives}
 use Rattle.mapping_facts.proofs.Members.{In-slice_get}
 use Rattle.mapping_facts.proofs.Tuples.{AreRows, satisfies_means}
 use Rattle.conflict_checker.specs.declared.derivation.Step.{Step}
 use Rattle.conflict_checker.specs.declared.derivation.Step.TheVariants.{Mapped as MappedStep, Rule}
-use Rattle.conflict_checker.specs.declared.derivation.Derivation.{Derivation}
-use Rattle.conflict_checker.specs.Derivations.{IsAccepted, are_row_numbers, cited_fact, facts_from, items_at, step_fact}
+use Rattle.conflict_checker.specs.Derivations.{are_row_numbers, cited_fact, facts_from, items_at, step_fact}
 use Rattle.conflict_checker.specs.Laws.{AcceptedIsContradicted}
 
 then_some : {A B : Type 0} (f : A → Option B) (o : Option A) (y : B) → option_and_then f o ≡ Some y → (x : A) × (o ≡ Some x) × (f x ≡ Some y)

@@ -1,5 +1,5 @@
 -- How many facts clash.
-use Rattle.std.proofs.Common.{◌≡◌, refl, sym, ◌∙◌, ap, ℕ, ◌+◌, ◌*◌, List, [], ◌∷◌, length, arith}
+use Rattle.std.proofs.Common.{◌≡◌, refl, sym, ◌∙◌, ap, ℕ, ◌*◌, List, [], ◌∷◌, length, arith}
 use Rattle.vocabulary.specs.declared.ids.LinkId.{LinkId}
 use Rattle.vocabulary.specs.declared.term.Term.{Term}
 use Rattle.vocabulary.specs.declared.term.Fact.{Fact}

@@ -6,7 +6,6 @@ use Rattle.std.proofs.lemmas.Bool.{and_parts, le-leb, leb-true, ltb-true}
 use Rattle.vocabulary.specs.declared.ids.TableId.{TableId}
 use Rattle.vocabulary.specs.declared.term.Fact.{Fact}
 use Rattle.vocabulary.specs.Lists.{In, here, there, item}
-use Rattle.dllite_axioms.specs.declared.axioms.Axiom.{Axiom}
 use Rattle.dllite_axioms.specs.declared.axioms.Constraint.{Constraint}
 use Rattle.dllite_axioms.specs.declared.axioms.Constraint.TheVariants.{Apart, Disjoint, Func, Identified}
 use Rattle.dllite_axioms.specs.declared.axioms.Tbox.{Tbox}

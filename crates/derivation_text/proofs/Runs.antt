@@ -9,10 +9,10 @@ use Rattle.conflict_checker.specs.declared.derivation.Step.{Step}
 use Rattle.conflict_checker.specs.declared.derivation.Step.TheVariants as steps
 use Rattle.conflict_checker.specs.declared.derivation.Derivation.{Derivation}
 use Rattle.derivation_text.specs.declared.place.Place.{Place}
-use Rattle.derivation_text.specs.declared.place.Place.TheVariants.{Between, Within, Ended}
+use Rattle.derivation_text.specs.declared.place.Place.TheVariants.{Between, Within}
 use Rattle.derivation_text.specs.declared.said.Said.{Said}
-use Rattle.derivation_text.specs.declared.said.Said.TheVariants.{Clash, Conflict, End}
-use Rattle.derivation_text.specs.Reading.{after_line, clashed, is_step, steps_limit, with_step}
+use Rattle.derivation_text.specs.declared.said.Said.TheVariants.{Clash, End}
+use Rattle.derivation_text.specs.Reading.{clashed, is_step, steps_limit, with_step}
 use Rattle.derivation_text.specs.Spelling.{AreSpelledSteps, AreWellFormed, IsSpelledStep, IsWellFormed, derivation_said, derivations_said, step_said, steps_said}
 use Rattle.derivation_text.proofs.Unnumbered.{next, ok_of, run}
 

@@ -1,7 +1,6 @@
 -- What is written spells its list, and what spells a list is read as it.
-use Rattle.std.proofs.Common.{◌≡◌, refl, sym, ◌∙◌, ap, ℕ, ◌+◌, ◌<◌, ◌≤◌, true, List, [], ◌∷◌, ◌++◌, append_assoc, filter, length, map, Ok, codes, arith}
-use Rattle.std.specs.List.{flat_map, list_all}
-use Rattle.std.proofs.lemmas.List.{append-nil}
+use Rattle.std.proofs.Common.{◌≡◌, refl, sym, ◌∙◌, ap, ℕ, ◌+◌, ◌≤◌, true, List, [], ◌∷◌, ◌++◌, append_assoc, filter, length, map, Ok, codes, arith}
+use Rattle.std.specs.List.{flat_map}
 use Rattle.vocabulary.specs.Lists.{here, there}
 use Rattle.line_lexer.specs.Lines.{lines_of}
 use Rattle.line_lexer.specs.Names.{AreNames}
@@ -12,9 +11,9 @@ use Rattle.conflict_checker.specs.declared.derivation.Derivation.{Derivation}
 use Rattle.derivation_text.specs.declared.place.Place.TheVariants.{Between}
 use Rattle.derivation_text.specs.declared.said.Said.{Said}
 use Rattle.derivation_text.specs.declared.said.Said.TheVariants.{Clash, Conflict, End}
-use Rattle.derivation_text.specs.Reading.{derivations_of, read_lines, said_by, steps_limit}
-use Rattle.derivation_text.specs.Spelling.{AreSpelledSteps, AreWellFormed, IsSpelledStep, IsWellFormed, Spells, derivation_said, derivations_said, says_something, step_said, steps_said}
-use Rattle.derivation_text.specs.Writing.{clash_line, conflict_line, derivation_lines, derivations_lines, derivations_text, step_line, step_lines}
+use Rattle.derivation_text.specs.Reading.{derivations_of, said_by, steps_limit}
+use Rattle.derivation_text.specs.Spelling.{AreSpelledSteps, AreWellFormed, IsSpelledStep, IsWellFormed, Spells, derivation_said, says_something, step_said, steps_said}
+use Rattle.derivation_text.specs.Writing.{clash_line, conflict_line, derivation_lines, derivations_text, step_line, step_lines}
 use Rattle.derivation_text.proofs.Naming.{found_named}
 use Rattle.derivation_text.proofs.Plain.{lines_read, step_small}
 use Rattle.derivation_text.proofs.Runs.{derivations_on}

@@ -1,5 +1,5 @@
 -- Reading by what the lines say, without their numbers.
-use Rattle.std.proofs.Common.{◌≡◌, refl, sym, ◌∙◌, ap, ℕ, ◌+◌, ◌==◌, ◌||◌, not, nat_lt, nat_le, ◌&&◌, Bool, true, false, if◌then◌else◌, List, [], ◌∷◌, ◌++◌, filter, length, map, Option, Some, None, Ok, Err}
+use Rattle.std.proofs.Common.{◌≡◌, refl, ◌∙◌, ap, ℕ, ◌+◌, ◌==◌, ◌||◌, not, nat_lt, nat_le, ◌&&◌, Bool, true, false, if◌then◌else◌, List, [], ◌∷◌, filter, length, map, Option, Some, None, Ok, Err}
 use Rattle.std.specs.Prelude.{option_and_then}
 use Rattle.std.specs.List.{list_all}
 use Rattle.line_lexer.specs.Tokens.{tokens_of}
@@ -12,7 +12,7 @@ use Rattle.derivation_text.specs.declared.place.Place.{Place}
 use Rattle.derivation_text.specs.declared.place.Place.TheVariants.{Between, Within, Ended}
 use Rattle.derivation_text.specs.declared.said.Said.{Said}
 use Rattle.derivation_text.specs.declared.said.Said.TheVariants.{Nothing, Conflict, Mapped, Rule, Clash, End, Unreadable}
-use Rattle.derivation_text.specs.Reading.{OrFault, after_line, at_the_end, is_step, onward, read_lines, said_by, steps_limit, with_step}
+use Rattle.derivation_text.specs.Reading.{OrFault, after_line, at_the_end, is_step, onward, read_lines, said_by, with_step}
 use Rattle.derivation_text.specs.Spelling.{says_something}
 
 abbrev pub ok_of : {A : Type 0} → OrFault A → Option A
