@@ -163,19 +163,36 @@ fn is_fact(
     Ok(shown(alloc, &fact)?.as_str() == want)
 }
 
+// Rows, the number of a target, and what it gives over the rows.
+fn are_facts(
+    alloc: Global,
+    mapping: &Mapping,
+    tables: &[Table],
+    cases: &[([u32; 2], u32, &str)],
+) -> Result<bool, AllocError>
+    requires { MappingFits mapping.now }
+{
+    for (rows, target, want) in cases {
+        if !is_fact(alloc, mapping, tables, rows.as_slice(), *target, want)? {
+            return Ok(false);
+        }
+    }
+    Ok(true)
+}
+
+const GIVEN: [([u32; 2], u32, &str); 5] = [
+    ([0, 0], 0, "http://a/1"),
+    ([0, 0], 1, "x 1"),
+    ([0, 1], 1, "-"),
+    ([1, 0], 0, "-"),
+    ([0, 0], 2, "-"),
+];
+
 #[test]
 fn tuples_give_facts(rt: HostRuntime) -> Result<(), Fail> {
     let tables = two_tables(rt.alloc())?;
     let mapping = mapping(rt.alloc(), Condition::NotNull(A_TITLE))?;
-    for (rows, target, want) in [
-        ([0, 0], 0, "http://a/1"),
-        ([0, 0], 1, "x 1"),
-        ([0, 1], 1, "-"),
-        ([1, 0], 0, "-"),
-        ([0, 0], 2, "-"),
-    ] {
-        assert!(rt; is_fact(rt.alloc(), &mapping, tables.as_slice(), &rows, target, want)?);
-    }
+    assert!(rt; are_facts(rt.alloc(), &mapping, tables.as_slice(), &GIVEN)?);
     Ok(())
 }
 
@@ -188,19 +205,19 @@ fn copied(alloc: Global) -> Result<Mapping, Fail>
 
 // The first row has no title. Where the title of a differs from the id of b, `{a.id}` is in the class:
 // a null differs from nothing.
+const COPIED: [([u32; 2], u32, &str); 4] = [
+    ([0, 0], 0, "-"),
+    ([0, 1], 0, "-"),
+    ([1, 0], 0, "http://a/2"),
+    ([1, 1], 0, "-"),
+];
+
 #[test]
 fn a_copy_gives_the_same_facts(rt: HostRuntime) -> Result<(), Fail> {
     let bytes = b"id,title\n1,\n2,2\n";
     let tables = tables_of(rt.alloc(), bytes, bytes)?;
     let copy = copied(rt.alloc())?;
-    for (rows, want) in [
-        ([0, 0], "-"),
-        ([0, 1], "-"),
-        ([1, 0], "http://a/2"),
-        ([1, 1], "-"),
-    ] {
-        assert!(rt; is_fact(rt.alloc(), &copy, tables.as_slice(), &rows, 0, want)?);
-    }
+    assert!(rt; are_facts(rt.alloc(), &copy, tables.as_slice(), &COPIED)?);
     Ok(())
 }
 
