@@ -91,7 +91,45 @@ class A
 class B
 disjoint A B
 
-=> Some(Line(4, NotBuilt))";
+=> Some(Line(4, NotBuilt))
+~
+onprom 1
+class A
+assoc p A * -> A *
+assoc q A * -> A *
+subassoc q inverse p
+subassoc q p
+=> None
+~
+onprom 1
+class A
+attr A u text *
+attr A v int *
+subattr u v
+=> Some(Line(5, TypeMismatch))
+~
+onprom 1
+class A
+assoc p A * -> A *
+subassoc p u
+=> Some(Line(4, Unknown))
+~
+onprom 1
+class A
+assoc p A * -> A *
+disjointassoc p Zed
+=> Some(Line(4, NotBuilt))
+~
+onprom 1
+class A
+attr A u text *
+identify A (u, u)
+=> Some(Line(4, NotBuilt))
+~
+onprom 1
+class A
+identify A u
+=> Some(Line(3, Syntax))";
 
 // How many tables, mappings, classes, links, statements and events there are.
 fn sizes(project: &Project) -> [usize; 6] {

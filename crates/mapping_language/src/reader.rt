@@ -1,5 +1,6 @@
 //! Reading a source line or a mapping line.
-ghost use Rattle.std.specs.Prelude.{◌≡◌, ◌≢◌, OnOk, IfErr, Ok, Err};
+ghost use Rattle.std.specs.Prelude.{◌≡◌, ◌≢◌, map, OnOk, IfErr, Ok, Err};
+ghost use Rattle.line_lexer.specs.Names.{AreNames};
 ghost use Rattle.mapping_language.specs.Changes.{HaveOffsets};
 ghost use Rattle.mapping_language.specs.Mappings.{read_mapping_line};
 ghost use Rattle.mapping_language.specs.Tables.{read_source_line};
@@ -27,6 +28,7 @@ pub fn read_source_line(
     ensures unchanged { IfErr result (λ e. e ≢ LineFault.NoMemory → sources.new ≡ sources.old) }
     ensures offsets { HaveOffsets sources.old → OnOk result (HaveOffsets sources.new) }
     ensures fit { AreFit sources.old.mappings → OnOk result (AreFit sources.new.mappings) }
+    ensures names { AreNames (map (λ m. m.name) sources.old.mappings) → OnOk result (AreNames (map (λ m. m.name) sources.new.mappings)) }
 {
     let tokens = tokens_of(alloc, line.text)?;
     if tokens.is_empty() {
@@ -42,9 +44,8 @@ pub fn read_source_line(
     Ok(())
 }
 
-/// Reads a line into the sources, whose names of classes and links are those of the model. A line whose first word is not
-/// `map` is Syntax here. A line without tokens says nothing. The offsets are needed for times in conditions.
-pub fn read_mapping_line(
+// What is promised of names follows from what the line says, so it stands at the call above.
+fn read_tokens_of_mapping(
     alloc: Global,
     sources: &mut Sources,
     model: &Model,
@@ -69,4 +70,23 @@ pub fn read_mapping_line(
     }
     add_mapping_line(alloc, sources, model, &line)?;
     Ok(())
+}
+
+/// Reads a line into the sources, whose names of classes and links are those of the model. A line whose first word is not
+/// `map` is Syntax here. A line without tokens says nothing. The offsets are needed for times in conditions.
+pub fn read_mapping_line(
+    alloc: Global,
+    sources: &mut Sources,
+    model: &Model,
+    line: &Line<'_>,
+) -> Result<(), LineFault>
+    requires { HaveOffsets sources.old }
+    ensures read { OnOk result (read_mapping_line (class_named model.now) (link_named model.now) sources.old line.now.text.now ≡ Ok sources.new) }
+    ensures fault { IfErr result (λ e. e ≢ LineFault.NoMemory → read_mapping_line (class_named model.now) (link_named model.now) sources.old line.now.text.now ≡ Err e) }
+    ensures unchanged { IfErr result (λ e. e ≢ LineFault.NoMemory → sources.new ≡ sources.old) }
+    ensures offsets { HaveOffsets sources.new }
+    ensures fit { AreFit sources.old.mappings → OnOk result (AreFit sources.new.mappings) }
+    ensures names { AreNames (map (λ m. m.name) sources.old.mappings) → OnOk result (AreNames (map (λ m. m.name) sources.new.mappings)) }
+{
+    read_tokens_of_mapping(alloc, sources, model, line)
 }

@@ -11,7 +11,7 @@ use annotation_language::read_annotation_line;
 use line_lexer::grammar::{ended, expect};
 use line_lexer::{Line, LineFault, Token, tokens_of};
 use mapping_language::{read_mapping_line, read_source_line};
-use std::alloc::Global;
+use std::alloc::{AllocError, Global};
 use uml_model::{ModelLine, model_line, read_model_line};
 
 // `table`, `column` or `key` stands first.
@@ -77,15 +77,19 @@ fn is_constraining(line: &ModelLine<'_>) -> bool
         ModelLine::Disjoint(_, _) => true,
         ModelLine::Assoc(_, _, m, _, n) => m.ends_with_one() || n.ends_with_one(),
         ModelLine::Attr(_, _, _, m) => m.ends_with_one(),
+        ModelLine::SubAssoc(_, _, _) => false,
+        ModelLine::SubAttr(_, _) => false,
+        ModelLine::DisjointAssoc(_, _, _) => true,
+        ModelLine::Identify(_, _) => true,
     }
 }
 
-fn is_unbuilt(tokens: &[Token<'_>]) -> bool
-    ensures { result ≡ is_unbuilt (model_line (map seen tokens.now)) }
+fn is_unbuilt(alloc: Global, tokens: &[Token<'_>]) -> Result<bool, AllocError>
+    ensures { IfOk result (λ unbuilt. unbuilt ≡ is_unbuilt (model_line (map seen tokens.now))) }
 {
-    match model_line(tokens) {
-        Some(line) => is_constraining(&line),
-        None => false,
+    match model_line(alloc, tokens)? {
+        Some(line) => Ok(is_constraining(&line)),
+        None => Ok(false),
     }
 }
 
@@ -129,7 +133,7 @@ impl Project {
         if is_of_notes(tokens) {
             return read_annotation_line(alloc, &mut self.noted, &self.model, line);
         }
-        if is_unbuilt(tokens) {
+        if is_unbuilt(alloc, tokens)? {
             return Err(LineFault::NotBuilt);
         }
         read_model_line(alloc, &mut self.model, line)

@@ -1,0 +1,25 @@
+use Rattle.std.proofs.Common.{length, map, ap, is_ok}
+use Rattle.std.proofs.ResultArms.{chosen}
+use Rattle.std.proofs.lemmas.List.{map-append}
+use Rattle.line_lexer.specs.Tokens.{seen}
+use Rattle.uml_model.proofs.Names.{begins, goes_on, ends, breaks, runs_out}
+use Rattle.uml_model.proofs.grammar.names.Goals as goal
+
+pub loop-i-init : goal.loop-i-init
+loop-i-init c = rw c.new-found.ensures.items (begins seen c.args.tokens.now)
+
+pub loop-i-preserved : goal.loop-i-preserved
+loop-i-preserved c =
+    let pushed = chosen _ _ _ _ c.push.ensures.items (ap is_ok c.in_ok-push.was) in
+    rw (pushed, map-append) (goes_on _ (map (λ u. u.now) c.loop-i.found.items) (length c.args.tokens.now) c.loop-i._i (map seen c.loop-i.left.tokens.now) c.loop-i.invariant c.loop-i-test.true c.in-Some.next.now (map seen c.in-Some.behind.now) (map seen c.in-Some-expect.rest.now) c.in-Some.ensures c.in-Some-expect.ensures)
+
+pub returns-in_default-expect-clause-names : goal.returns-in_default-expect-clause-names
+returns-in_default-expect-clause-names c =
+    let pushed = chosen _ _ _ _ c.push.ensures.items (ap is_ok c.in_ok-push.was) in
+    rw (pushed, map-append) (ends _ (map (λ u. u.now) c.loop-i.found.items) (length c.args.tokens.now) c.loop-i._i (map seen c.loop-i.left.tokens.now) c.loop-i.invariant c.loop-i-test.true c.in-Some.next.now (map seen c.in-Some.behind.now) c.in-Some.ensures c.in_default-expect.ensures)
+
+pub returns-in_default-clause-names : goal.returns-in_default-clause-names
+returns-in_default-clause-names c = breaks _ (map (λ u. u.now) c.loop-i.found.items) (length c.args.tokens.now) c.loop-i._i (map seen c.loop-i.left.tokens.now) c.loop-i.invariant c.loop-i-test.true c.in_default.ensures
+
+pub returns-clause-names : goal.returns-clause-names
+returns-clause-names c = runs_out _ (map (λ u. u.now) c.loop-i.found.items) (length c.args.tokens.now) c.loop-i._i (map seen c.loop-i.left.tokens.now) c.loop-i.invariant c.loop-i-test.false
