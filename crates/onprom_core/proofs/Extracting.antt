@@ -13,13 +13,14 @@ use Rattle.annotation_language.specs.declared.notes.Annotations.{Annotations}
 use Rattle.project_language.specs.declared.project.Project.{Project}
 use Rattle.project_language.specs.Sound.{IsSound}
 use Rattle.onprom_core.specs.Extracted.{ExtractedFrom}
-use Rattle.onprom_core.specs.Jobs.{Agrees, EndsExtraction, Ending, IsWide, certain, extracted, facts, tbox, too_wide, wide_end}
+use Rattle.onprom_core.specs.Jobs.{EndsExtraction, Ending, extracted, too_wide, wide_end}
+use Rattle.onprom_core.specs.Meaning.{IsConsistentProject, IsWide, certain, facts, tbox}
 
 no_item : (c : Constraint) → In c [] → ⊥
 no_item c stands = elim stands [ ]
 
 -- without constraints no constraint is contradicted
-agrees : (project : Project) (tables : List Loaded) → IsSound project → Agrees project tables
+agrees : (project : Project) (tables : List Loaded) → IsSound project → IsConsistentProject project tables
 agrees project tables sound = λ c stands contradicted. no_item c (rw sound.unconstrained at stands)
 
 -- the job is done with the log and the report of the answers, or with none where a query is too wide

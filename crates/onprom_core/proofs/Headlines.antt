@@ -1,5 +1,5 @@
 -- What a run of `extract` writes for an accepted project.
-use Rattle.std.proofs.Common.{◌≡◌, ◌≢◌, refl, subst, ap, arith, ◌∙◌, List, ℕ, [], ◌∷◌, ◌+◌, ◌≤◌, nat_lt, false, codes, length, Option, None, Some, IfSome, Ok, ◌⊎◌, inl, inr}
+use Rattle.std.proofs.Common.{◌≡◌, ◌≢◌, refl, sym, subst, ap, arith, ◌∙◌, List, ℕ, [], ◌∷◌, ◌+◌, ◌≤◌, nat_lt, false, codes, length, Option, None, Some, IfSome, Ok, ◌⊎◌, inl, inr}
 use Rattle.std.specs.Io.KnownBytes.{Appends, Keeps}
 use Rattle.std.proofs.lemmas.List.{append-nil}
 use Rattle.line_lexer.specs.Faults.{limit_of}
@@ -11,10 +11,12 @@ use Rattle.onprom_core.specs.declared.status.Status.{Status}
 use Rattle.onprom_core.specs.declared.status.Status.TheVariants as status
 use Rattle.onprom_core.specs.Causes.{IsWhole}
 use Rattle.onprom_core.specs.Commands.{Extract}
-use Rattle.onprom_core.specs.Delivery.{EndsAs, EndsJob, Completes}
-use Rattle.onprom_core.specs.Headline.{AreTables, Extracts, IsAccepted, IsHeld, IsQuiet, ReportsContradictions, TellsWidth, WritesLog}
-use Rattle.onprom_core.specs.Jobs.{Agrees, EndsExtraction, Ending, IsWide, extracted, too_wide, contradicted}
+use Rattle.onprom_core.specs.Delivery.{ComesToJob, Completes, Delivers, EndsAs, EndsJob}
+use Rattle.onprom_core.specs.Headline.{AreTables, Extracts, ExtractsSoundly, IsAcceptedProject, IsHeld, ReportsContradictions, TellsWidth, WritesLog}
+use Rattle.onprom_core.specs.Jobs.{EndsExtraction, Ending, extracted, too_wide, contradicted}
+use Rattle.onprom_core.specs.Meaning.{IsConsistentProject, IsWide}
 use Rattle.onprom_core.specs.Steps.{Step, ◌>>=◌}
+use Rattle.onprom_core.proofs.WalksBack.{accepted}
 use Rattle.onprom_core.specs.Walk.{Files, Extracting, command_step, complete_step, extract_step, file_step, job_step, one_table, project_step, sources_step, tables_step, walk}
 
 not_past : (limit n : ℕ) → n ≤ limit → nat_lt limit n ≡ false
@@ -44,13 +46,13 @@ tables_read files before (decl ∷ decls) (table ∷ tables) all =
     (onward (tables_step files (before + length all.0) decls) _ tables _ (tables_read files (before + length all.0) decls tables all.4) refl)
 
 -- the walk of an accepted project comes to its job
-pub walked : (files : Files) (p : List ℕ) (project : Project) (tables : List Loaded) → IsAccepted files p project tables → (walk (codes "extract" ∷ p ∷ []) files).end ≡ Ok (Extracting project tables)
+pub walked : (files : Files) (p : List ℕ) (project : Project) (tables : List Loaded) → IsAcceptedProject files p project tables → (walk (codes "extract" ∷ p ∷ []) files).end ≡ Ok (Extracting project tables)
 unfolding walk extract_step
 walked files p project tables a =
     onward (command_step (codes "extract" ∷ p ∷ [])) (job_step files) (Extract p) _ refl
-    (onward (project_step files p) _ project _ (onward (file_step files p) _ a.bytes _ (file_held files p a.bytes a.held) (rw a.read refl))
+    (onward (project_step files p) _ project _ (onward (file_step files p) _ a.read.bytes _ (file_held files p a.read.bytes a.read.held) (rw a.read.read refl))
     (onward (complete_step p project) _ project _ (rw a.complete refl)
-    (onward (sources_step files project) _ tables _ (tables_read files 0 project.sources.tables tables a.loaded) refl)))
+    (onward (sources_step files project) _ tables _ (tables_read files 0 project.sources.tables tables a.read.loaded) refl)))
 
 -- no extraction ends with a failed call
 whole : (project : Project) (tables : List Loaded) (e : Ending) (r : Status) → EndsExtraction project tables e → r ≡ e.status → IsWhole r × (r ≢ status.ReadFault)
@@ -64,20 +66,19 @@ Keeps-of (Some x) None is = absurd is
 Keeps-of (Some x) (Some y) is = is ∙ append-nil x
 
 module _ (project : Project) (tables : List Loaded) (out out' report report' : Option (List ℕ)) (r : Status) (e : Ending) (same : r ≡ e.status) (written : Appends out out' e.out) (reported : Appends report report' e.report) where
-  log_written : EndsExtraction project tables e → Agrees project tables → (IsWide project → ⊥) → WritesLog project tables out out' report report' r
+  log_written : EndsExtraction project tables e → IsConsistentProject project tables → (IsWide project → ⊥) → WritesLog project tables out out' report report' r
   log_written (extracted agrees narrow done texts) is free = record {
     done = same ∙ done;
-    log = texts.log;
-    the_log = texts.the_log;
-    written = subst (Appends out out') texts.text written;
+    text = e.out;
     said = e.report;
-    the_report = texts.reported;
+    extracted = texts;
+    written = written;
     reported = reported;
   }
   log_written (too_wide agrees wide is) agreed free = absurd (free wide)
   log_written (contradicted clash ds are is) agreed free = absurd (clash agreed)
 
-  width_told : EndsExtraction project tables e → Agrees project tables → IsWide project → TellsWidth out out' report report' r
+  width_told : EndsExtraction project tables e → IsConsistentProject project tables → IsWide project → TellsWidth out out' report report' r
   width_told (extracted agrees narrow done texts) agreed wide = absurd (narrow wide)
   width_told (too_wide agrees wide is) agreed other = record {
     limit = same ∙ ap (λ e. e.status) is;
@@ -86,7 +87,7 @@ module _ (project : Project) (tables : List Loaded) (out out' report report' : O
   }
   width_told (contradicted clash ds are is) agreed wide = absurd (clash agreed)
 
-  contradictions_reported : EndsExtraction project tables e → (Agrees project tables → ⊥) → ReportsContradictions project tables out out' report report' r
+  contradictions_reported : EndsExtraction project tables e → (IsConsistentProject project tables → ⊥) → ReportsContradictions project tables out out' report report' r
   contradictions_reported (extracted agrees narrow done texts) clash = absurd (clash agrees)
   contradictions_reported (too_wide agrees wide is) clash = absurd (clash agrees)
   contradictions_reported (contradicted other ds are is) clash = record {
@@ -100,11 +101,11 @@ module _ (project : Project) (tables : List Loaded) (out out' report report' : O
 module _ (words : List (List ℕ)) (faults faults' written written' reported reported' : ℕ) (out out' report report' : Option (List ℕ)) (r : Status) where
   -- over files that are known
   extracts : (files : Files) → (r ≢ status.ReadFault → IsWhole r → EndsAs words files out out' report report' r) → Completes (walk words files).end faults faults' written written' reported reported' r
-      → Extracts words files (IsQuiet faults faults' written written' reported reported') out out' report report' r
+      → Extracts words files faults faults' written written' reported reported' out out' report report' r
   extracts files ends complete p project tables named a quiet memory = by (rw (named, walked files p project tables a) at complete quiet.read quiet.wrote quiet.told)
     where
       by : EndsJob (Extracting project tables) r ⊎ (r ≡ status.NoMemory)
-          → (Agrees project tables → (IsWide project → ⊥) → WritesLog project tables out out' report report' r) × (Agrees project tables → IsWide project → TellsWidth out out' report report' r) × ((Agrees project tables → ⊥) → ReportsContradictions project tables out out' report report' r)
+          → (IsConsistentProject project tables → (IsWide project → ⊥) → WritesLog project tables out out' report report' r) × (IsConsistentProject project tables → IsWide project → TellsWidth out out' report report' r) × ((IsConsistentProject project tables → ⊥) → ReportsContradictions project tables out out' report report' r)
       by (inr short) = absurd (memory short)
       by (inl job) =
           let free = whole project tables job.0 r job.1 job.2 in
@@ -117,6 +118,26 @@ module _ (words : List (List ℕ)) (faults faults' written written' reported rep
 
   pub extracts_from : (held : Option Files) → IfSome held (λ files. r ≢ status.ReadFault → IsWhole r → EndsAs words files out out' report report' r)
       → IfSome held (λ files. Completes (walk words files).end faults faults' written written' reported reported' r)
-      → IfSome held (λ files. Extracts words files (IsQuiet faults faults' written written' reported reported') out out' report report' r)
+      → IfSome held (λ files. Extracts words files faults faults' written written' reported reported' out out' report report' r)
   extracts_from None ends complete = tt
   extracts_from (Some files) ends complete = extracts files ends complete
+
+module _ (words : List (List ℕ)) (out out' report report' : Option (List ℕ)) (r : Status) (e : Ending) where
+  -- an extraction that is done
+  logged : (files : Files) (p : List ℕ) (project : Project) (tables : List Loaded) → EndsExtraction project tables e → r ≡ e.status → r ≡ status.Done → Appends out out' e.out → Appends report report' e.report → IsAcceptedProject files p project tables
+      → (project : Project) × (tables : List Loaded) × IsAcceptedProject files p project tables × IsConsistentProject project tables × WritesLog project tables out out' report report' r
+  logged files p project tables (extracted agrees narrow ok texts) same done written reported is = (project, tables, is, agrees, record { done = done; text = e.out; said = e.report; extracted = texts; written = written; reported = reported })
+  logged files p project tables (too_wide agrees wide end) same done written reported is = let other : status.Done ≡ status.Limit = sym done ∙ same ∙ ap (λ e. e.status) end in absurd cc
+  logged files p project tables (contradicted clash ds are end) same done written reported is = let other : status.Done ≡ status.Conflict = sym done ∙ same ∙ ap (λ e. e.status) end in absurd cc
+
+  -- over files that are known
+  sound : (files : Files) → ComesToJob words files e → Delivers e out out' report report' r → ExtractsSoundly words files out out' report report' r
+  sound files comes d p named done =
+      let w = d.whole (rw done (record { written = λ x. cc; reported = λ x. cc; memory = λ x. cc })) in
+      let job = comes (sym w.0 ∙ done) in
+      let a = accepted files p job.0 (rw named at job.1) in
+      logged files p a.0 a.1 (rw a.3 at job.2) w.0 done w.1 w.2 a.2
+
+  pub sound_from : (held : Option Files) → IfSome held (λ files. ComesToJob words files e) → Delivers e out out' report report' r → IfSome held (λ files. ExtractsSoundly words files out out' report report' r)
+  sound_from None comes d = tt
+  sound_from (Some files) comes d = sound files comes d

@@ -1,5 +1,5 @@
 -- Commands by their words, and first ends of walks, computed.
-use Rattle.std.proofs.Common.{◌≡◌, refl, ℕ, Bool, true, false, List, [], ◌∷◌, Option, Some, None, Result, Ok, Err, codes, map}
+use Rattle.std.proofs.Common.{◌≡◌, refl, ℕ, List, [], ◌∷◌, Option, Some, None, Result, Ok, Err, codes, map, arith}
 use Rattle.std.specs.Fmt.{digits}
 use Rattle.std.specs.Str.{chars, is_utf8}
 use Rattle.line_lexer.specs.Tokens.{tokens_behind, token_front}
@@ -9,12 +9,15 @@ use Rattle.mapping_language.specs.Grammar as map_grammar
 use Rattle.mapping_language.specs.Tables as map_tables
 use Rattle.annotation_language.specs.Grammar as note_grammar
 use Rattle.annotation_language.specs.Lines as note_lines
-use Rattle.project_language.specs.Project.{open_lines, read_lines, read_project}
+use Rattle.project_language.specs.Project.{nothing, open_lines, read_lines, read_project}
+use Rattle.project_language.specs.declared.fault.ProjectFault.{ProjectFault}
+use Rattle.project_language.specs.declared.project.Project.{Project}
 use Rattle.onprom_core.specs.declared.status.Status.TheVariants as status
 use Rattle.onprom_core.specs.declared.halt.Stopped.{Stopped}
 use Rattle.onprom_core.specs.Commands.{Extract, Check, Verify, Answer, Rewrite, Make, command_of}
+use Rattle.onprom_core.specs.Headline.{IsAcceptedProject}
 use Rattle.onprom_core.specs.Lines.{line_refused, usage_line}
-use Rattle.onprom_core.specs.Walk.{Files, Job, Extracting, extract_step, one_table, tables_step, walk}
+use Rattle.onprom_core.specs.Walk.{Files, Job, extract_step, one_table, tables_step, walk}
 
 -- each command; a number of documents has no leading zero, is not 0 and at most 100,000
 commands : map command_of ((codes "extract" ∷ codes "p" ∷ []) ∷ (codes "check" ∷ codes "p" ∷ []) ∷ (codes "verify" ∷ codes "p" ∷ codes "d" ∷ []) ∷ (codes "answer" ∷ codes "p" ∷ codes "q" ∷ []) ∷ (codes "rewrite" ∷ codes "p" ∷ codes "q" ∷ []) ∷ (codes "make" ∷ codes "100000" ∷ codes "summary" ∷ []) ∷ [])
@@ -66,3 +69,16 @@ table_begun = refl
 done : extract (codes "p") (held (codes "onprom 1\nclass A\ncase c where A(c)\n")) ≡ None
 unfolding walk extract_step tables_step chars tokens_behind token_front model_lines.model_line model_rules.broken note_grammar.at_most note_grammar.atom note_grammar.of_any note_grammar.of_one note_grammar.annotation_line note_lines.broken note_lines.grown open_lines read_lines read_project is_utf8 lib.Utf8.encode
 done = refl
+
+-- the project that was read, where one was
+abbrev project_or_none : Result Project ProjectFault → Project
+project_or_none (Ok project) = project
+project_or_none (Err fault) = nothing
+
+abbrev small : List ℕ
+small = codes "onprom 1\nclass A\ncase c where A(c)\n"
+
+-- a project that is accepted: it is held and read, it has no tables, and its annotations lack nothing
+accepted : IsAcceptedProject (held small) (codes "p") (project_or_none (read_project small)) []
+unfolding chars tokens_behind token_front model_lines.model_line model_rules.broken note_grammar.at_most note_grammar.atom note_grammar.of_any note_grammar.of_one note_grammar.annotation_line note_lines.broken note_lines.grown open_lines read_lines read_project is_utf8 lib.Utf8.encode
+accepted = record { read = record { bytes = small; held = (refl, omega arith); read = refl; loaded = tt }; complete = refl }

@@ -56,3 +56,8 @@ is_built (Make n f) = false
 abbrev pub is_extract : List (List ℕ) → Bool
 is_extract (word ∷ p ∷ []) = bytes_eq word (codes "extract")
 is_extract words = false
+
+-- the words are `check` and one more
+abbrev pub is_check : List (List ℕ) → Bool
+is_check (word ∷ p ∷ []) = bytes_eq word (codes "check")
+is_check words = false

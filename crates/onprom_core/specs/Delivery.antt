@@ -1,12 +1,13 @@
 -- What was written of an ending.
-use Rattle.std.specs.Prelude.{◌≡◌, ◌≢◌, ◌⊎◌, ℕ, List, [], Option, Result, Ok, Err, Contains}
+use Rattle.std.specs.Prelude.{◌≡◌, ◌≢◌, ◌⊎◌, ℕ, false, List, [], Option, Result, Ok, Err, Contains}
 use Rattle.outside.specs.Counts.{Rose}
 use Rattle.onprom_core.specs.declared.halt.Stopped.{Stopped}
 use Rattle.std.specs.Io.KnownBytes.{Appends, Keeps}
 use Rattle.outside.specs.Written.{AppendsFront}
 use Rattle.onprom_core.specs.declared.status.Status.{Status}
 use Rattle.onprom_core.specs.declared.status.Status.TheVariants as status
-use Rattle.onprom_core.specs.Causes.{IsWhole, NamesFault}
+use Rattle.onprom_core.specs.Causes.{CountsEnd, IsWhole, NamesFault}
+use Rattle.onprom_core.specs.Commands.{is_check}
 use Rattle.onprom_core.specs.Lines.{fault_line}
 use Rattle.onprom_core.specs.Jobs.{Ending, IsEnd, IsJobEnd}
 use Rattle.onprom_core.specs.Walk.{Files, Job, walk}
@@ -22,31 +23,43 @@ pub record Delivers (e : Ending) (out out' report report' : Option (List ℕ)) (
   pub report_fault : result ≡ status.ReportFault → Appends out out' e.out × AppendsFront report report' e.report
   pub no_memory : result ≡ status.NoMemory → (AppendsFront out out' e.out × Keeps report report') ⊎ (Appends out out' e.out × AppendsFront report report' e.report)
 
--- an ending that a run may come to before it writes: the first end, or a fault of the shelf at a file that the walk begins
-pub record IsDecided (words : List (List ℕ)) (files : Files) (faults faults' : ℕ) (e : Ending) : Type 0 where
+-- an ending that a run may come to before it writes: the first end, or a fault of the shelf at a file that the walk begins;
+-- it comes only where the counts of the shelf say so
+pub record IsDecided (words : List (List ℕ)) (files : Files) (faults faults' absences absences' : ℕ) (e : Ending) : Type 0 where
   pub first : e.status ≢ status.ReadFault → IsFirstEnd words files e
-  pub fault : e.status ≡ status.ReadFault → Rose faults faults' × NamesFault (walk words files).begun e.report
-  pub silent : e.status ≢ status.Done → e.out ≡ []
+  pub fault : e.status ≡ status.ReadFault → NamesFault (walk words files).begun e.report × (e.out ≡ [])
+  pub counts : CountsEnd faults faults' absences absences' e.status
+
+-- an ending that is done is the end of the job to which the walk comes
+abbrev pub ComesToJob : List (List ℕ) → Files → Ending → Type 0
+ComesToJob words files e = e.status ≡ status.Done → (job : Job) × ((walk words files).end ≡ Ok job) × IsJobEnd job e
 
 -- all of its text, and a front of its report
-pub record EndsReporting (words : List (List ℕ)) (files : Files) (faults faults' : ℕ) (written written' reported reported' : Option (List ℕ)) : Type 0 where
+pub record EndsReporting (words : List (List ℕ)) (files : Files) (faults faults' absences absences' : ℕ) (written written' reported reported' : Option (List ℕ)) : Type 0 where
   pub ending : Ending
-  pub decided : IsDecided words files faults faults' ending
+  pub decided : IsDecided words files faults faults' absences absences' ending
   pub out : Appends written written' ending.out
   pub report : AppendsFront reported reported' ending.report
 
--- a front of the text of the ending
-pub record EndsWithin (words : List (List ℕ)) (files : Files) (faults faults' : ℕ) (written written' : Option (List ℕ)) : Type 0 where
+-- a front of the text of the ending, which has one
+pub record EndsCut (words : List (List ℕ)) (files : Files) (faults faults' absences absences' : ℕ) (written written' : Option (List ℕ)) : Type 0 where
   pub ending : Ending
-  pub decided : IsDecided words files faults faults' ending
+  pub decided : IsDecided words files faults faults' absences absences' ending
+  pub some : ending.out ≢ []
+  pub out : AppendsFront written written' ending.out
+
+-- a front of the text of the ending
+pub record EndsWithin (words : List (List ℕ)) (files : Files) (faults faults' absences absences' : ℕ) (written written' : Option (List ℕ)) : Type 0 where
+  pub ending : Ending
+  pub decided : IsDecided words files faults faults' absences absences' ending
   pub out : AppendsFront written written' ending.out
 
 -- nothing, or a front of its text, or its text and a front of its report
-abbrev pub EndsEarly : List (List ℕ) → Files → ℕ → ℕ → Option (List ℕ) → Option (List ℕ) → Option (List ℕ) → Option (List ℕ) → Type 0
-EndsEarly words files faults faults' written written' reported reported' =
+abbrev pub EndsEarly : List (List ℕ) → Files → ℕ → ℕ → ℕ → ℕ → Option (List ℕ) → Option (List ℕ) → Option (List ℕ) → Option (List ℕ) → Type 0
+EndsEarly words files faults faults' absences absences' written written' reported reported' =
     (Keeps written written' × Keeps reported reported')
-    ⊎ (EndsWithin words files faults faults' written written' × Keeps reported reported')
-    ⊎ EndsReporting words files faults faults' written written' reported reported'
+    ⊎ (EndsWithin words files faults faults' absences absences' written written' × Keeps reported reported')
+    ⊎ EndsReporting words files faults faults' absences absences' written written' reported reported'
 
 -- the line of a read fault names a file that the walk begins
 abbrev pub ReportsFault : List (List ℕ) → Option (List ℕ) → Option (List ℕ) → Type 0
@@ -64,19 +77,19 @@ pub record EndsAs (words : List (List ℕ)) (files : Files) (written written' re
   pub out : Appends written written' ending.out
   pub report : Appends reported reported' ending.report
 
--- the statuses that come only with an unchanged output
-abbrev pub KeepsOut : Status → Option (List ℕ) → Option (List ℕ) → Type 0
-KeepsOut status.Done old new = Unit {0}
-KeepsOut status.WriteFault old new = Unit {0}
-KeepsOut status.ReportFault old new = Unit {0}
-KeepsOut status.NoMemory old new = Unit {0}
-KeepsOut status.Conflict old new = Keeps old new
-KeepsOut status.Usage old new = Keeps old new
-KeepsOut status.Refused old new = Keeps old new
-KeepsOut status.Absent old new = Keeps old new
-KeepsOut status.ReadFault old new = Keeps old new
-KeepsOut status.Limit old new = Keeps old new
-KeepsOut status.NotAccepted old new = Keeps old new
+-- the statuses that come only with an unchanged output; a conflict has its derivations there for `check` alone
+abbrev pub KeepsOut : List (List ℕ) → Status → Option (List ℕ) → Option (List ℕ) → Type 0
+KeepsOut words status.Done old new = Unit {0}
+KeepsOut words status.WriteFault old new = Unit {0}
+KeepsOut words status.ReportFault old new = Unit {0}
+KeepsOut words status.NoMemory old new = Unit {0}
+KeepsOut words status.Conflict old new = is_check words ≡ false → Keeps old new
+KeepsOut words status.Usage old new = Keeps old new
+KeepsOut words status.Refused old new = Keeps old new
+KeepsOut words status.Absent old new = Keeps old new
+KeepsOut words status.ReadFault old new = Keeps old new
+KeepsOut words status.Limit old new = Keeps old new
+KeepsOut words status.NotAccepted old new = Keeps old new
 
 -- the job ends with this status
 abbrev pub EndsJob : Job → Status → Type 0

@@ -1,42 +1,26 @@
 -- How the job of a run ends, once all is read.
-use Rattle.std.specs.Prelude.{◌≡◌, ◌≢◌, ◌⊎◌, ℕ, ◌≤◌, option_map, unwrap_or, ◌==◌, not, List, [], ◌∷◌, ◌++◌, length, map, codes, decimal, Option, Some, None, Result, Ok, Err}
+use Rattle.std.specs.Prelude.{◌≡◌, ◌≢◌, ◌⊎◌, ℕ, option_map, unwrap_or, ◌==◌, not, List, [], ◌∷◌, ◌++◌, length, codes, decimal, Option, Some, None, Result, Ok, Err}
 use Rattle.std.specs.List.{flat_map, filter_map, take_while}
-use Rattle.std.specs.List.Sorted.{IsStrictlySortedBy}
-use Rattle.std.specs.Ordering.{nat_cmp}
 use Rattle.vocabulary.specs.Lists.{In, IsListOf}
-use Rattle.vocabulary.specs.declared.term.Fact.{Fact}
-use Rattle.line_lexer.specs.Faults.{limit_of, name_of}
-use Rattle.line_lexer.specs.declared.fault.Counted.TheVariants.{Rewriting as RewritingCount, Steps}
-use Rattle.dllite_axioms.specs.declared.axioms.Constraint.{Constraint}
-use Rattle.dllite_axioms.specs.declared.axioms.Tbox.{Tbox}
-use Rattle.dllite_axioms.specs.Clashes.{IsContradicted, IsConsistent}
-use Rattle.uml_model.specs.Axioms.{axioms_of, constraints_of}
+use Rattle.line_lexer.specs.Faults.{name_of}
+use Rattle.line_lexer.specs.declared.fault.Counted.TheVariants.{Rewriting as RewritingCount}
 use Rattle.source_tables.specs.Tables.{Loaded}
-use Rattle.mapping_facts.specs.Facts.{mapped_facts}
 use Rattle.queries.specs.declared.query.Query.{Query}
 use Rattle.queries.specs.Order.{query_cmp}
-use Rattle.certain_semantics.specs.Certain.{IsCertain}
 use Rattle.perfect_rewriting.specs.Reach.{Reach}
-use Rattle.perfect_rewriting.specs.Rewriting.{IsTooWide}
 use Rattle.query_subsumption.specs.Subsumption.{AreKept}
-use Rattle.xes_writer.specs.declared.log.Log.{Log}
-use Rattle.xes_writer.specs.Xes.{xes_text}
 use Rattle.annotation_language.specs.Named.{variables_named}
-use Rattle.log_assembly.specs.Asked.{Certain}
-use Rattle.log_assembly.specs.Answered.{AsksTooWide}
-use Rattle.log_assembly.specs.TheLog.{IsLog}
-use Rattle.log_assembly.specs.TheReport.{IsReport}
 use Rattle.conflict_checker.specs.declared.derivation.Derivation.{Derivation}
-use Rattle.conflict_checker.specs.Derivations.{IsAccepted, item}
-use Rattle.derivation_text.specs.Writing.{derivations_text}
+use Rattle.conflict_checker.specs.Derivations.{IsAccepted}
 use Rattle.big_project.specs.Files.{file_of}
 use Rattle.project_language.specs.declared.project.Project.{Project}
 use Rattle.onprom_core.specs.declared.status.Status.{Status}
 use Rattle.onprom_core.specs.declared.status.Status.TheVariants as status
 use Rattle.onprom_core.specs.declared.halt.Stopped.{Stopped}
 use Rattle.onprom_core.specs.Lines.{limit_line}
+use Rattle.onprom_core.specs.Meaning.{AreContradictions, IsConsistentProject, IsExtracted, IsTooWideToAnswer, IsTooWideToRewrite, IsWide, certain, spelled, tbox}
 use Rattle.onprom_core.specs.Printed.{AreAnswers, queries_text, queries_report}
-use Rattle.onprom_core.specs.Walk.{Files, Job, Extracting, Checking, Verifying, Answering, Rewriting, Making, extract_step, mapping_names}
+use Rattle.onprom_core.specs.Walk.{Files, Job, Extracting, Checking, Verifying, Answering, Rewriting, Making, extract_step}
 
 -- a status with what is written for it
 pub record Ending : Type 0 where
@@ -52,49 +36,11 @@ stopped_end stopped = record { status = stopped.status; out = []; report = stopp
 abbrev pub wide_end : Ending
 wide_end = record { status = status.Limit; out = []; report = limit_line (name_of RewritingCount) }
 
--- what the model lines mean
-abbrev pub tbox : Project → Tbox
-tbox project = record { axioms = axioms_of project.model.lines; constraints = constraints_of project.model.lines }
-
--- what the tables say
-abbrev pub facts : Project → List Loaded → List Fact
-facts project tables = mapped_facts project.sources.mappings tables
-
--- the certain answers over the chase of the mapped facts
-abbrev pub certain : Project → List Loaded → Certain
-certain project tables = IsCertain (tbox project).axioms (facts project tables)
-
--- no round of the chase holds a clash
-abbrev pub Agrees : Project → List Loaded → Type 0
-Agrees project tables = IsConsistent (tbox project).axioms (tbox project).constraints (facts project tables)
-
--- one of the queries that a log asks is too wide
-abbrev pub IsWide : Project → Type 0
-IsWide project = AsksTooWide (tbox project).axioms project.noted.notes
-
--- the texts are those of the one log and of its report
-pub record IsExtracted (project : Project) (tables : List Loaded) (out report : List ℕ) : Type 0 where
-  pub log : Log (List ℕ)
-  pub the_log : IsLog (certain project tables) project.noted.notes log
-  pub text : out ≡ xes_text log
-  pub reported : IsReport (certain project tables) project.noted.notes log report
-
--- one accepted derivation for each contradicted constraint and for no other, in the order of the constraints
-pub record AreContradictions (project : Project) (tables : List Loaded) (ds : List Derivation) : Type 0 where
-  pub accepted : (d : Derivation) → In d ds → IsAccepted (tbox project) project.sources.mappings tables d
-  pub short : (d : Derivation) → In d ds → length d.steps ≤ limit_of Steps
-  pub each_once : IsStrictlySortedBy nat_cmp (map (λ d. d.constraint) ds)
-  pub all : (n : ℕ) (c : Constraint) → item (tbox project).constraints n ≡ Some c → IsContradicted (tbox project).axioms (facts project tables) c → In n (map (λ d. d.constraint) ds)
-
--- the text of derivations, by the names of the project's mappings
-abbrev pub spelled : Project → List Derivation → List ℕ
-spelled project ds = derivations_text (mapping_names project) ds
-
 -- `extract`: consistency first, then the queries
 pub data EndsExtraction (project : Project) (tables : List Loaded) (e : Ending) : Type 0 where
-  extracted : Agrees project tables → (IsWide project → ⊥) → e.status ≡ status.Done → IsExtracted project tables e.out e.report → EndsExtraction project tables e
-  too_wide : Agrees project tables → IsWide project → e ≡ wide_end → EndsExtraction project tables e
-  contradicted : (Agrees project tables → ⊥) → (ds : List Derivation) → AreContradictions project tables ds → e ≡ record { status = status.Conflict; out = []; report = spelled project ds } → EndsExtraction project tables e
+  extracted : IsConsistentProject project tables → (IsWide project → ⊥) → e.status ≡ status.Done → IsExtracted project tables e.out e.report → EndsExtraction project tables e
+  too_wide : IsConsistentProject project tables → IsWide project → e ≡ wide_end → EndsExtraction project tables e
+  contradicted : (IsConsistentProject project tables → ⊥) → (ds : List Derivation) → AreContradictions project tables ds → e ≡ record { status = status.Conflict; out = []; report = spelled project ds } → EndsExtraction project tables e
 
 -- `contradicted C` for each
 abbrev pub contradicted_lines : List Derivation → List ℕ
@@ -102,8 +48,8 @@ contradicted_lines ds = flat_map (λ d. codes "contradicted " ++ decimal d.const
 
 -- `check`
 pub data EndsCheck (project : Project) (tables : List Loaded) (e : Ending) : Type 0 where
-  consistent : Agrees project tables → e ≡ record { status = status.Done; out = []; report = codes "consistent\n" } → EndsCheck project tables e
-  contradicted : (Agrees project tables → ⊥) → (ds : List Derivation) → AreContradictions project tables ds → e ≡ record { status = status.Conflict; out = spelled project ds; report = contradicted_lines ds } → EndsCheck project tables e
+  consistent : IsConsistentProject project tables → e ≡ record { status = status.Done; out = []; report = codes "consistent\n" } → EndsCheck project tables e
+  contradicted : (IsConsistentProject project tables → ⊥) → (ds : List Derivation) → AreContradictions project tables ds → e ≡ record { status = status.Conflict; out = spelled project ds; report = contradicted_lines ds } → EndsCheck project tables e
 
 -- each of these derivations is accepted
 abbrev pub AreAccepted : Project → List Loaded → List Derivation → Type 0
@@ -118,8 +64,8 @@ pub data EndsVerification (project : Project) (tables : List Loaded) (ds : List 
 
 -- `answer`: consistency is not tested
 pub data EndsAnswering (project : Project) (tables : List Loaded) (q : Query) (e : Ending) : Type 0 where
-  answered : (IsTooWide (tbox project).axioms q → ⊥) → e.status ≡ status.Done → AreAnswers (certain project tables q) e.out e.report → EndsAnswering project tables q e
-  too_wide : IsTooWide (tbox project).axioms q → e ≡ wide_end → EndsAnswering project tables q e
+  answered : (IsTooWideToAnswer project q → ⊥) → e.status ≡ status.Done → AreAnswers (certain project tables q) e.out e.report → EndsAnswering project tables q e
+  too_wide : IsTooWideToAnswer project q → e ≡ wide_end → EndsAnswering project tables q e
 
 -- the queries as they are printed, by the names of the query's variables and of the model
 abbrev pub printed : Project → List ℕ → List Query → List ℕ
@@ -127,9 +73,9 @@ printed project name qs = queries_text (unwrap_or (variables_named project.noted
 
 -- `rewrite`: of the reach in its order, the queries that no other stands for
 pub data EndsRewriting (project : Project) (name : List ℕ) (q : Query) (e : Ending) : Type 0 where
-  rewritten : (IsTooWide (tbox project).axioms q → ⊥) → (reached kept : List Query) → IsListOf query_cmp (Reach (tbox project).axioms q) reached → AreKept reached kept
+  rewritten : (IsTooWideToRewrite project q → ⊥) → (reached kept : List Query) → IsListOf query_cmp (Reach (tbox project).axioms q) reached → AreKept reached kept
       → e ≡ record { status = status.Done; out = printed project name kept; report = queries_report kept } → EndsRewriting project name q e
-  too_wide : IsTooWide (tbox project).axioms q → e ≡ wide_end → EndsRewriting project name q e
+  too_wide : IsTooWideToRewrite project q → e ≡ wide_end → EndsRewriting project name q e
 
 -- the three files of the made project of n documents
 abbrev pub with_file : ℕ → List ℕ → Files → Files

@@ -1,6 +1,7 @@
 pub mod Codes
 pub mod Commands
 pub mod Lines
+pub mod Meaning
 pub mod Steps
 pub mod Walk
 pub mod Printed

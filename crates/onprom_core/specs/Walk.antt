@@ -1,5 +1,5 @@
 -- How a run goes where the shelf tells its files and nothing fails: step by step to its first end or to its job.
-use Rattle.std.specs.Prelude.{◌≡◌, ℕ, ◌+◌, List, [], ◌∷◌, length, nat_lt, codes, map, Option, Some, None, Result, Ok, Err, if◌then◌else◌}
+use Rattle.std.specs.Prelude.{◌≡◌, ℕ, ◌+◌, List, [], ◌∷◌, length, nat_lt, codes, Option, Some, None, Result, Ok, Err, if◌then◌else◌}
 use Rattle.std.specs.Str.{is_utf8}
 use Rattle.outside.specs.Files.{bytes_of}
 use Rattle.line_lexer.specs.Faults.{kind_of, limit_of, name_of}
@@ -25,6 +25,7 @@ use Rattle.onprom_core.specs.declared.status.Status.TheVariants as status
 use Rattle.onprom_core.specs.declared.halt.Stopped.{Stopped}
 use Rattle.onprom_core.specs.Commands.{Command, Extract, Check, Verify, Answer, Rewrite, Make, command_of, is_built}
 use Rattle.onprom_core.specs.Lines.{usage_line, absent_line, limit_line, line_refused, query_refused, table_refused}
+use Rattle.onprom_core.specs.Meaning.{mapping_names}
 use Rattle.onprom_core.specs.Steps.{Step, goes, stops, ◌>>=◌}
 
 abbrev pub Files : Type 0
@@ -125,10 +126,6 @@ spelled_step d (Err (text_fault.Unknown line)) = stop status.Refused (line_refus
 spelled_step d (Err (text_fault.BadStep line)) = stop status.Refused (line_refused d line (codes "BadStep"))
 spelled_step d (Err text_fault.TooLong) = stop status.Limit (limit_line (name_of Steps))
 spelled_step d (Err text_fault.NoMemory) = stop status.NoMemory []
-
--- the names of the mappings
-abbrev pub mapping_names : Project → List (List ℕ)
-mapping_names project = map (λ m. m.name) project.sources.mappings
 
 abbrev pub spell_step : Project → List ℕ → List ℕ → Step (List Derivation)
 spell_step project d bytes =

@@ -1,7 +1,7 @@
 //! Deciding how a run ends, before anything is written.
-ghost use Rattle.std.specs.Prelude.{◌≡◌, ◌≢◌, [], IfOk, IfSome};
+ghost use Rattle.std.specs.Prelude.{◌≡◌, ◌≢◌, [], IfOk, IfSome, IsTrue};
 ghost use Rattle.onprom_core.specs.Causes.{CountsEnd, IsWhole, SaysLine};
-ghost use Rattle.onprom_core.specs.Delivery.{IsDecided};
+ghost use Rattle.onprom_core.specs.Delivery.{ComesToJob, IsDecided};
 ghost use Rattle.onprom_core.specs.Shown.{shown};
 ghost use Rattle.onprom_core.specs.Walk.{IsNoCommand};
 
@@ -26,13 +26,17 @@ pub(crate) fn decide<S: Shelf>(
     words: &Words,
     shelf: &mut S,
 ) -> Result<Decided, AllocError>
-    ensures decided { IfOk result (λ d. IfSome (S.held shelf.old) (λ files.
-        IsDecided words.now files (S.faults shelf.old) (S.faults shelf.new) (shown d))) }
+    ensures held { S.held shelf.new ≡ S.held shelf.old }
+    ensures decided { IfOk result (λ d. IfSome (S.held shelf.old) (λ files. IsDecided words.now files
+        (S.faults shelf.old) (S.faults shelf.new) (S.absences shelf.old) (S.absences shelf.new) (shown d))) }
+    ensures job { IfOk result (λ d. IfSome (S.held shelf.old) (λ files. ComesToJob words.now files (shown d))) }
     ensures usage { IfOk result (λ d. d.status ≡ Status.Usage → IsNoCommand words.now) }
     ensures no_command { IsNoCommand words.now → IfOk result (λ d. d.status ≡ Status.Usage) }
     ensures whole { IfOk result (λ d. IsWhole d.status) }
     ensures line { IfOk result (λ d. SaysLine d.status d.line) }
     ensures silent { IfOk result (λ d. d.status ≢ Status.Done → d.text.items ≡ []) }
+    ensures last { S.faults shelf.new ≢ S.faults shelf.old → IsTrue (S.failed shelf.new) }
+    ensures fault_last { IfOk result (λ d. d.status ≡ Status.ReadFault → IsTrue (S.failed shelf.new)) }
     ensures counts { IfOk result (λ d. CountsEnd (S.faults shelf.old) (S.faults shelf.new)
         (S.absences shelf.old) (S.absences shelf.new) d.status) }
 {

@@ -16,6 +16,8 @@ pub(crate) fn deliver<O: Sink, R: Sink>(decided: &Decided, out: &mut O, report: 
         (O.written out.old) (O.written out.new) (R.written report.old) (R.written report.new) result }
     ensures nothing { decided.now.text.items ≡ [] → result ≢ Status.WriteFault }
     ensures memory { result ≡ Status.NoMemory → IsTrue (O.wants out.old) ⊎ IsTrue (R.wants report.old) }
+    ensures write_last { result ≡ Status.WriteFault → IsTrue (O.failed out.new) }
+    ensures report_last { result ≡ Status.ReportFault → IsTrue (R.failed report.new) }
     ensures write { result ≡ Status.WriteFault → Rose (O.faults out.old) (O.faults out.new) }
     ensures write_same { result ≢ Status.WriteFault → O.faults out.new ≡ O.faults out.old }
     ensures report { result ≡ Status.ReportFault → Rose (R.faults report.old) (R.faults report.new) }

@@ -6,6 +6,8 @@ ghost use Rattle.onprom_core.specs.Outputs.{Adds, EndsWell, Passes, Refuses, Wor
 ghost use Rattle.onprom_core.specs.Steps.{Gives};
 ghost use Rattle.onprom_core.specs.Walk.{IsNoCommand, command_step, complete_step, extract_step, file_step, one_table, project_step, read_step, table_step, tables_step, together_step, walk};
 ghost use Rattle.jiff_core.specs.Calendar.{IsWithin};
+ghost use Rattle.line_lexer.specs.Faults.{limit_of};
+ghost use Rattle.line_lexer.specs.declared.fault.Counted.TheVariants.{File, TablesTogether};
 ghost use Rattle.project_language.specs.Project.{read_project};
 ghost use Rattle.project_language.specs.Sound.{IsSound};
 ghost use Rattle.std.specs.List.{All};
@@ -22,17 +24,16 @@ use source_tables::{Table, TableDecl, TableFault, load};
 use std::alloc::{AllocError, Global};
 use vocabulary::List;
 
-const FILE_LIMIT: u64 = 67_108_864;
-
 /// Reads up to the job, and does it.
 #[tactic(auto, unfolding(crate::specs::Walk::walk))]
 pub(crate) fn work<S: Shelf>(alloc: Global, words: &Words, shelf: &mut S) -> Result<Output, Halt>
+    ensures held { S.held shelf.new ≡ S.held shelf.old }
     ensures told { IfSome (S.held shelf.old) (λ files. Works result (walk words.now files)) }
     ensures well { IfOk result EndsWell }
     ensures usage { IfErr result (λ h. SaysUsage h → IsNoCommand words.now) }
     ensures no_command { IsNoCommand words.now → IfErr result SaysUsageAtMost × IsErr result }
     ensures counts { CountsReading (S.faults shelf.old) (S.faults shelf.new)
-        (S.absences shelf.old) (S.absences shelf.new) result }
+        (S.absences shelf.old) (S.absences shelf.new) (S.failed shelf.new) result }
 {
     let name = project_named(alloc, words)?;
     extract(alloc, shelf, name)
@@ -63,11 +64,12 @@ fn project_named(alloc: Global, words: &Words) -> Result<&str, Halt>
 // Reads the project and its tables, and makes the log.
 #[tactic(auto, unfolding(crate::specs::Walk::extract_step))]
 fn extract<S: Shelf>(alloc: Global, shelf: &mut S, name: &str) -> Result<Output, Halt>
+    ensures held { S.held shelf.new ≡ S.held shelf.old }
     ensures told { IfSome (S.held shelf.old) (λ files. Works result (extract_step files name.now)) }
     ensures well { IfOk result EndsWell }
     ensures usage { IfErr result (λ h. SaysUsage h → ⊥) }
     ensures counts { CountsReading (S.faults shelf.old) (S.faults shelf.new)
-        (S.absences shelf.old) (S.absences shelf.new) result }
+        (S.absences shelf.old) (S.absences shelf.new) (S.failed shelf.new) result }
 {
     let project = project_read(alloc, shelf, name)?;
     extract_from(alloc, shelf, name, &project)
@@ -82,11 +84,12 @@ fn extract_from<S: Shelf>(
     project: &Project,
 ) -> Result<Output, Halt>
     requires { IsSound project.now }
+    ensures held { S.held shelf.new ≡ S.held shelf.old }
     ensures told { IfSome (S.held shelf.old) (λ files. Works result (rest_step files name.now project.now)) }
     ensures well { IfOk result EndsWell }
     ensures usage { IfErr result (λ h. SaysUsage h → ⊥) }
     ensures counts { CountsReading (S.faults shelf.old) (S.faults shelf.new)
-        (S.absences shelf.old) (S.absences shelf.new) result }
+        (S.absences shelf.old) (S.absences shelf.new) (S.failed shelf.new) result }
 {
     completed(alloc, name, project)?;
     let tables = tables_read(alloc, shelf, project.sources.tables())?;
@@ -100,14 +103,14 @@ fn project_read<S: Shelf>(alloc: Global, shelf: &mut S, name: &str) -> Result<Pr
     ensures sound { IfOk result IsSound }
     ensures usage { IfErr result (λ h. SaysUsage h → ⊥) }
     ensures counts { CountsReading (S.faults shelf.old) (S.faults shelf.new)
-        (S.absences shelf.old) (S.absences shelf.new) result }
+        (S.absences shelf.old) (S.absences shelf.new) (S.failed shelf.new) result }
 {
     let bytes = read_named(alloc, shelf, name)?;
     project_of(alloc, name, bytes.slice())
 }
 
 fn project_of(alloc: Global, name: &str, bytes: &[u8]) -> Result<Project, Halt>
-    requires { length bytes.now ≤ 67_108_864 }
+    requires { length bytes.now ≤ limit_of File }
     ensures told { Gives (λ p. p) result (read_step name.now (read_project bytes.now)) }
     ensures sound { IfOk result IsSound }
     ensures usage { IfErr result (λ h. SaysUsage h → ⊥) }
@@ -166,7 +169,7 @@ fn tables_read<S: Shelf>(
     ensures told { IfSome (S.held shelf.old) (λ files. Gives (λ tables. tables) result (tables_step files 0 decls.now)) }
     ensures usage { IfErr result (λ h. SaysUsage h → ⊥) }
     ensures counts { CountsReading (S.faults shelf.old) (S.faults shelf.new)
-        (S.absences shelf.old) (S.absences shelf.new) result }
+        (S.absences shelf.old) (S.absences shelf.new) (S.failed shelf.new) result }
 {
     let mut tables = List::new(alloc);
     add_tables(alloc, shelf, 0, decls, &mut tables)?;
@@ -182,13 +185,13 @@ fn add_tables<S: Shelf>(
     decls: &[TableDecl],
     tables: &mut List<Table>,
 ) -> Result<(), Halt>
-    requires before { before ≤ 268_435_456 }
+    requires before { before ≤ limit_of TablesTogether }
     requires offsets { All (λ decl. IsWithin 840 decl.offset) decls.now }
     ensures held { S.held shelf.new ≡ S.held shelf.old }
     ensures told { IfSome (S.held shelf.old) (λ files. Adds tables.old tables.new result (tables_step files before decls.now)) }
     ensures usage { IfErr result (λ h. SaysUsage h → ⊥) }
     ensures counts { CountsReading (S.faults shelf.old) (S.faults shelf.new)
-        (S.absences shelf.old) (S.absences shelf.new) result }
+        (S.absences shelf.old) (S.absences shelf.new) (S.failed shelf.new) result }
 {
     let [decl, rest @ ..] = decls else {
         return Ok(());
@@ -205,14 +208,14 @@ fn table_read<S: Shelf>(
     before: u64,
     decl: &TableDecl,
 ) -> Result<(Table, u64), Halt>
-    requires before { before ≤ 268_435_456 }
+    requires before { before ≤ limit_of TablesTogether }
     requires offset { IsWithin 840 decl.now.offset }
     ensures held { S.held shelf.new ≡ S.held shelf.old }
     ensures told { IfSome (S.held shelf.old) (λ files. Gives (λ read. read) result (one_table files before decl.now)) }
-    ensures within { IfOk result (λ read. read.1 ≤ 268_435_456) }
+    ensures within { IfOk result (λ read. read.1 ≤ limit_of TablesTogether) }
     ensures usage { IfErr result (λ h. SaysUsage h → ⊥) }
     ensures counts { CountsReading (S.faults shelf.old) (S.faults shelf.new)
-        (S.absences shelf.old) (S.absences shelf.new) result }
+        (S.absences shelf.old) (S.absences shelf.new) (S.failed shelf.new) result }
 {
     let bytes = read_named(alloc, shelf, decl.file.text())?;
     let total = together(alloc, before, bytes.len())?;
@@ -221,10 +224,10 @@ fn table_read<S: Shelf>(
 }
 
 fn together(alloc: Global, before: u64, more: usize) -> Result<u64, Halt>
-    requires before { before ≤ 268_435_456 }
-    requires more { more ≤ 67_108_864 }
+    requires before { before ≤ limit_of TablesTogether }
+    requires more { more ≤ limit_of File }
     ensures told { Gives (λ total. total) result (together_step (before + more)) }
-    ensures within { IfOk result (λ total. total ≤ 268_435_456) }
+    ensures within { IfOk result (λ total. total ≤ limit_of TablesTogether) }
     ensures usage { IfErr result (λ h. SaysUsage h → ⊥) }
     ensures local { IfErr result IsLocal }
 {
@@ -251,13 +254,13 @@ fn loaded(alloc: Global, decl: &TableDecl, bytes: &[u8]) -> Result<Table, Halt>
 
 fn read_named<S: Shelf>(alloc: Global, shelf: &mut S, name: &str) -> Result<Bytes, Halt>
     ensures held { S.held shelf.new ≡ S.held shelf.old }
-    ensures bound { IfOk result (λ bytes. length bytes ≤ 67_108_864) }
+    ensures bound { IfOk result (λ bytes. length bytes ≤ limit_of File) }
     ensures told { IfSome (S.held shelf.old) (λ files. Gives (λ bytes. bytes) result (file_step files name.now)) }
     ensures usage { IfErr result (λ h. SaysUsage h → ⊥) }
     ensures counts { CountsReading (S.faults shelf.old) (S.faults shelf.new)
-        (S.absences shelf.old) (S.absences shelf.new) result }
+        (S.absences shelf.old) (S.absences shelf.new) (S.failed shelf.new) result }
 {
-    match read_file(alloc, shelf, name, FILE_LIMIT) {
+    match read_file(alloc, shelf, name, Counted::File.limit()) {
         Ok(bytes) => Ok(bytes),
         Err(FileFault::Absent) => Err(Halt::Stopped(Stopped {
             status: Status::Absent,

@@ -1,10 +1,10 @@
 //! The top call.
-ghost use Rattle.std.specs.Prelude.{◌≡◌, ◌≢◌, IfSome};
+ghost use Rattle.std.specs.Prelude.{◌≡◌, ◌≢◌, IfSome, IsTrue};
 ghost use Rattle.std.specs.Io.KnownBytes.{Appends, Keeps};
 ghost use Rattle.outside.specs.Counts.{Rose};
 ghost use Rattle.onprom_core.specs.Causes.{IsWhole};
-ghost use Rattle.onprom_core.specs.Delivery.{EndsAs, EndsWithin, EndsReporting, EndsEarly, ReportsFault, NamesFile, KeepsOut, Completes, AnswersNoCommand};
-ghost use Rattle.onprom_core.specs.Headline.{Extracts, IsQuiet};
+ghost use Rattle.onprom_core.specs.Delivery.{EndsAs, EndsCut, EndsReporting, EndsEarly, ReportsFault, NamesFile, KeepsOut, Completes, AnswersNoCommand};
+ghost use Rattle.onprom_core.specs.Headline.{Extracts, ExtractsSoundly};
 ghost use Rattle.onprom_core.specs.Lines.{absent_line, fault_line, usage_line};
 ghost use Rattle.onprom_core.specs.Walk.{walk, IsNoCommand};
 
@@ -28,30 +28,34 @@ pub fn run<S: Shelf, O: Sink, R: Sink>(
 ) -> Status
     // The promise of `extract`: the one log of an accepted project, or what contradicts it.
     ensures headline { IfSome (S.held shelf.old) (λ files. Extracts words.now files
-        (IsQuiet (S.faults shelf.old) (S.faults shelf.new) (O.faults out.old) (O.faults out.new) (R.faults report.old) (R.faults report.new))
+        (S.faults shelf.old) (S.faults shelf.new) (O.faults out.old) (O.faults out.new) (R.faults report.old) (R.faults report.new)
+        (O.written out.old) (O.written out.new) (R.written report.old) (R.written report.new) result) }
+    // An extraction that is done wrote the one log of an accepted project that nothing contradicts.
+    ensures sound { IfSome (S.held shelf.old) (λ files. ExtractsSoundly words.now files
         (O.written out.old) (O.written out.new) (R.written report.old) (R.written report.new) result) }
     // Where no call failed and memory sufficed, the first end of the walk was written.
     ensures ends { IfSome (S.held shelf.old) (λ files. result ≢ Status.ReadFault → IsWhole result →
         EndsAs words.now files (O.written out.old) (O.written out.new) (R.written report.old) (R.written report.new) result) }
-    // After a failed write a front of the text stands.
+    // After a failed write a front of the text stands, where there is a text.
     ensures written { IfSome (S.held shelf.old) (λ files. result ≡ Status.WriteFault →
-        EndsWithin words.now files (S.faults shelf.old) (S.faults shelf.new) (O.written out.old) (O.written out.new)) }
+        EndsCut words.now files (S.faults shelf.old) (S.faults shelf.new) (S.absences shelf.old) (S.absences shelf.new) (O.written out.old) (O.written out.new)) }
     // A read fault names a file that the walk begins.
     ensures faulted { IfSome (S.held shelf.old) (λ files. result ≡ Status.ReadFault →
         ReportsFault (walk words.now files).begun (R.written report.old) (R.written report.new)) }
     // After a failed report the text stands whole, and a front of the report.
     ensures reporting { IfSome (S.held shelf.old) (λ files. result ≡ Status.ReportFault →
-        EndsReporting words.now files (S.faults shelf.old) (S.faults shelf.new)
+        EndsReporting words.now files (S.faults shelf.old) (S.faults shelf.new) (S.absences shelf.old) (S.absences shelf.new)
         (O.written out.old) (O.written out.new) (R.written report.old) (R.written report.new)) }
     // For want of memory nothing stands, or a front of the text, or the text and a front of the report.
     ensures early { IfSome (S.held shelf.old) (λ files. result ≡ Status.NoMemory →
-        EndsEarly words.now files (S.faults shelf.old) (S.faults shelf.new)
+        EndsEarly words.now files (S.faults shelf.old) (S.faults shelf.new) (S.absences shelf.old) (S.absences shelf.new)
         (O.written out.old) (O.written out.new) (R.written report.old) (R.written report.new)) }
     // Where the walk comes to its job and no count of faults rises, the job is done, unless memory is short.
     ensures complete { IfSome (S.held shelf.old) (λ files. Completes (walk words.now files).end
         (S.faults shelf.old) (S.faults shelf.new) (O.faults out.old) (O.faults out.new)
         (R.faults report.old) (R.faults report.new) result) }
-    ensures kept { KeepsOut result (O.written out.old) (O.written out.new) }
+    ensures held { S.held shelf.new ≡ S.held shelf.old }
+    ensures kept { KeepsOut words.now result (O.written out.old) (O.written out.new) }
     ensures report_kept { result ≡ Status.WriteFault → Keeps (R.written report.old) (R.written report.new) }
     ensures usage { result ≡ Status.Usage → IsNoCommand words.now }
     ensures usage_line { result ≡ Status.Usage → Appends (R.written report.old) (R.written report.new) usage_line }
@@ -60,6 +64,13 @@ pub fn run<S: Shelf, O: Sink, R: Sink>(
     ensures absent_file { result ≡ Status.Absent → NamesFile absent_line (R.written report.old) (R.written report.new) }
     ensures read { result ≡ Status.ReadFault → Rose (S.faults shelf.old) (S.faults shelf.new) }
     ensures read_file { result ≡ Status.ReadFault → NamesFile fault_line (R.written report.old) (R.written report.new) }
+    // A call that failed was the last on its shelf or sink.
+    ensures shelf_last { S.faults shelf.new ≢ S.faults shelf.old → IsTrue (S.failed shelf.new) }
+    ensures read_last { result ≡ Status.ReadFault → IsTrue (S.failed shelf.new) }
+    ensures write_last { result ≡ Status.WriteFault → IsTrue (O.failed out.new) }
+    ensures report_last { result ≡ Status.ReportFault → IsTrue (R.failed report.new) }
+    // After a failed call on the shelf nothing is written to the text's sink.
+    ensures unread { S.faults shelf.new ≢ S.faults shelf.old → Keeps (O.written out.old) (O.written out.new) }
     ensures write { result ≡ Status.WriteFault → Rose (O.faults out.old) (O.faults out.new) }
     ensures report { result ≡ Status.ReportFault → Rose (R.faults report.old) (R.faults report.new) }
     // No failed call goes without its status.

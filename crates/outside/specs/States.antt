@@ -1,11 +1,12 @@
 -- The shelves and sinks in memory, as their contracts see them.
-use Rattle.std.specs.Prelude.{ℕ, List}
+use Rattle.std.specs.Prelude.{ℕ, Bool, List}
 use Rattle.outside.specs.Opened.{Opened}
 use Rattle.outside.specs.Calls.{CountedCalls}
 
 -- a shelf whose calls fail at chosen numbers
 pub record FailingShelf : Type 0 where
   pub opened : Opened
+  pub failed : Bool
   pub calls : CountedCalls
   pub absences : ℕ
 
@@ -18,4 +19,5 @@ pub record SteadyShelf : Type 0 where
 pub record FailingSink : Type 0 where
   pub written : List ℕ
   pub most : ℕ
+  pub failed : Bool
   pub calls : CountedCalls

@@ -15,6 +15,7 @@ use std::rt::Files;
 pub struct FolderShelf<'a, R: Files> {
     rt: &'a R,
     current: Option<R::File>,
+    failed: bool,
     faults: u64,
     absences: u64,
 }
@@ -23,12 +24,14 @@ impl<'a, R: Files> FolderShelf<'a, R> {
     /// A shelf with no current file.
     pub fn new(rt: &'a R) -> Self
         ensures open { ⟦<FolderShelf<'a, R> as Shelf>⟧.is_open result ≡ false }
+        ensures failed { ⟦<FolderShelf<'a, R> as Shelf>⟧.failed result ≡ false }
         ensures faults { ⟦<FolderShelf<'a, R> as Shelf>⟧.faults result ≡ 0 }
         ensures absences { ⟦<FolderShelf<'a, R> as Shelf>⟧.absences result ≡ 0 }
     {
         FolderShelf {
             rt,
             current: None,
+            failed: false,
             faults: 0,
             absences: 0,
         }
@@ -42,12 +45,15 @@ impl<'a, R: Files> Shelf for FolderShelf<'a, R> {
 
     ghost left = { λ s. None };
 
+    ghost failed = { λ s. s.failed };
+
     ghost faults = { λ s. s.faults };
 
     ghost absences = { λ s. s.absences };
 
     fn begin(&mut self, name: &str) -> Result<bool, Failed> {
         self.current = None;
+        self.failed = false;
         match fs::open(self.rt, name) {
             Ok(file) => {
                 self.current = Some(file);
@@ -58,6 +64,7 @@ impl<'a, R: Files> Shelf for FolderShelf<'a, R> {
                     self.absences = self.absences.saturating_add(1);
                     Ok(false)
                 } else {
+                    self.failed = true;
                     self.faults = self.faults.saturating_add(1);
                     Err(Failed)
                 }
@@ -66,11 +73,13 @@ impl<'a, R: Files> Shelf for FolderShelf<'a, R> {
     }
 
     fn read(&mut self, buf: &mut [u8]) -> Result<usize, Failed> {
+        self.failed = false;
         match &mut self.current {
             None => Ok(0),
             Some(file) => match file.read(buf) {
                 Ok(count) => Ok(count),
                 Err(_) => {
+                    self.failed = true;
                     self.faults = self.faults.saturating_add(1);
                     Err(Failed)
                 }

@@ -1,5 +1,5 @@
 //! A shelf in memory whose calls fail where they are told to.
-ghost use Rattle.std.specs.Prelude.{◌≡◌, ◌↔◌, false, [], ◌∷◌, ◌++◌, None, Some, is_some, IsErr, IfOk, OnOk, OnErr, Contains};
+ghost use Rattle.std.specs.Prelude.{◌≡◌, ◌↔◌, false, IsTrue, [], ◌∷◌, ◌++◌, None, Some, is_some, IsErr, IfOk, OnOk, OnErr, Contains};
 ghost use Rattle.std.specs.Io.{ReadsAtMost};
 ghost use Rattle.std.specs.Io.KnownBytes.{ReadConsumes};
 ghost use Rattle.outside.specs.Counts.{next_count, CountsBegin, CountsRead};
@@ -17,6 +17,7 @@ use std::marker::Model;
 #[derive(Drop)]
 pub struct MemoryShelf {
     files: Files,
+    failed: bool,
     calls: Calls,
     absences: u64,
 }
@@ -26,7 +27,7 @@ impl Model for MemoryShelf {
 
     ghost Value = { FailingShelf };
 
-    ghost view = { λ s. record { opened = s.files; calls = s.calls; absences = s.absences } };
+    ghost view = { λ s. record { opened = s.files; failed = s.failed; calls = s.calls; absences = s.absences } };
 }
 
 impl MemoryShelf {
@@ -34,12 +35,14 @@ impl MemoryShelf {
     pub fn new(alloc: Global) -> Self
         ensures { result ≡ record {
           opened = record { files = []; left = None };
+          failed = false;
           calls = record { made = 0; failing = []; faults = 0 };
           absences = 0;
         } }
     {
         MemoryShelf {
             files: Files::new(alloc),
+            failed: false,
             calls: Calls::new(alloc),
             absences: 0,
         }
@@ -86,6 +89,8 @@ impl Shelf for MemoryShelf {
 
     ghost left = { λ s. s.opened.left };
 
+    ghost failed = { λ s. s.failed };
+
     ghost faults = { λ s. s.calls.faults };
 
     ghost absences = { λ s. s.absences };
@@ -93,10 +98,11 @@ impl Shelf for MemoryShelf {
     fn begin(&mut self, name: &str) -> Result<bool, Failed>
         ensures held { self.new.opened.files ≡ self.old.opened.files }
         ensures open { IfOk result (λ found. is_some self.new.opened.left ≡ found) }
-        ensures failed { OnErr result (is_some self.new.opened.left ≡ false) }
+        ensures shut { OnErr result (is_some self.new.opened.left ≡ false) }
         ensures closed { is_some self.new.opened.left ≡ false → self.new.opened.left ≡ None }
         ensures told { let file = bytes_of self.old.opened.files name.now in
             IfOk result (λ found. (found ≡ is_some file) × (self.new.opened.left ≡ file)) }
+        ensures last { IsTrue self.new.failed ↔ IsErr result }
         ensures counts { CountsBegin self.old.calls.faults self.new.calls.faults self.old.absences self.new.absences result }
 
         // The call is counted, and fails exactly where its number was chosen.
@@ -104,7 +110,8 @@ impl Shelf for MemoryShelf {
         ensures fails { IsErr result ↔ Contains self.old.calls.failing (next_count self.old.calls.made) }
         ensures failing { self.new.calls.failing ≡ self.old.calls.failing }
     {
-        if self.calls.next_fails() {
+        self.failed = self.calls.next_fails();
+        if self.failed {
             self.files.close();
             return Err(Failed);
         }
@@ -118,10 +125,12 @@ impl Shelf for MemoryShelf {
     fn read(&mut self, buf: &mut [u8]) -> Result<usize, Failed>
         ensures held { self.new.opened.files ≡ self.old.opened.files }
         ensures open { is_some self.new.opened.left ≡ is_some self.old.opened.left }
-        ensures closed { is_some self.old.opened.left ≡ false → IfOk result (λ n. n ≡ 0) }
+        ensures nothing { is_some self.old.opened.left ≡ false → IfOk result (λ n. n ≡ 0) }
+        ensures closed { is_some self.new.opened.left ≡ false → self.new.opened.left ≡ None }
         ensures bound { ReadsAtMost result buf.new }
         ensures bytes { ReadConsumes self.old.opened.left self.new.opened.left result buf.new }
-        ensures failed { OnErr result (self.new.opened.left ≡ self.old.opened.left) }
+        ensures stays { OnErr result (self.new.opened.left ≡ self.old.opened.left) }
+        ensures last { IsTrue self.new.failed ↔ IsErr result }
         ensures counts { CountsRead self.old.calls.faults self.new.calls.faults self.old.absences self.new.absences result }
 
         // The call is counted, and fails exactly where its number was chosen.
@@ -129,7 +138,8 @@ impl Shelf for MemoryShelf {
         ensures fails { IsErr result ↔ Contains self.old.calls.failing (next_count self.old.calls.made) }
         ensures failing { self.new.calls.failing ≡ self.old.calls.failing }
     {
-        if self.calls.next_fails() {
+        self.failed = self.calls.next_fails();
+        if self.failed {
             return Err(Failed);
         }
         Ok(self.files.next(buf))

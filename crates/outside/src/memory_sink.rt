@@ -1,5 +1,5 @@
 //! A sink in memory whose calls fail where they are told to.
-ghost use Rattle.std.specs.Prelude.{◌≡◌, ◌↔◌, ◌<◌, min, max, true, [], ◌∷◌, ◌++◌, length, take, Some, Err, IfOk, OnOk, OnErr, Contains};
+ghost use Rattle.std.specs.Prelude.{◌≡◌, ◌↔◌, ◌<◌, min, max, true, false, IsTrue, [], ◌∷◌, ◌++◌, length, take, Some, Err, IfOk, OnOk, OnErr, Contains};
 ghost use Rattle.std.specs.Io.{WritesAtMost};
 ghost use Rattle.outside.specs.Counts.{next_count, CountsWrite};
 
@@ -16,6 +16,7 @@ use std::marker::Model;
 pub struct MemorySink {
     bytes: Bytes,
     most: usize,
+    failed: bool,
     calls: Calls,
 }
 
@@ -24,7 +25,7 @@ impl Model for MemorySink {
 
     ghost Value = { FailingSink };
 
-    ghost view = { λ s. record { written = s.bytes; most = s.most; calls = s.calls } };
+    ghost view = { λ s. record { written = s.bytes; most = s.most; failed = s.failed; calls = s.calls } };
 }
 
 impl MemorySink {
@@ -33,12 +34,14 @@ impl MemorySink {
         ensures { result ≡ record {
           written = [];
           most = most;
+          failed = false;
           calls = record { made = 0; failing = []; faults = 0 };
         } }
     {
         MemorySink {
             bytes: Bytes::new(alloc),
             most,
+            failed: false,
             calls: Calls::new(alloc),
         }
     }
@@ -66,6 +69,8 @@ impl MemorySink {
 impl Sink for MemorySink {
     ghost written = { λ s. Some s.written };
 
+    ghost failed = { λ s. s.failed };
+
     ghost wants = { λ s. true };
 
     ghost faults = { λ s. s.calls.faults };
@@ -77,6 +82,7 @@ impl Sink for MemorySink {
         ensures bytes { IfOk result (λ n. self.new.written ≡ self.old.written ++ take n piece.now) }
         ensures err { OnErr result (self.new.written ≡ self.old.written) }
         ensures most { self.new.most ≡ self.old.most }
+        ensures last { IsTrue self.new.failed ↔ (result ≡ Err Stop.Failed) }
         ensures counts { CountsWrite self.old.calls.faults self.new.calls.faults result }
 
         // The call is counted, and fails exactly where its number was chosen.
@@ -84,7 +90,8 @@ impl Sink for MemorySink {
         ensures fails { (result ≡ Err Stop.Failed) ↔ Contains self.old.calls.failing (next_count self.old.calls.made) }
         ensures failing { self.new.calls.failing ≡ self.old.calls.failing }
     {
-        if self.calls.next_fails() {
+        self.failed = self.calls.next_fails();
+        if self.failed {
             return Err(Stop::Failed);
         }
         let count = self.most.max(1).min(piece.len());

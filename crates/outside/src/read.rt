@@ -1,5 +1,5 @@
 //! Reading a whole file.
-ghost use Rattle.std.specs.Prelude.{◌≡◌, ◌<◌, ◌≤◌, ◌+◌, ℕ, List, length, Some, Err, IfOk, IfSome, OnOk, OnErr, ◌≢◌};
+ghost use Rattle.std.specs.Prelude.{◌≡◌, ◌<◌, ◌≤◌, ◌+◌, ℕ, IsTrue, List, length, Some, Err, IfOk, IfSome, OnOk, OnErr, ◌≢◌};
 ghost use Rattle.std.specs.Bool.{OnTrue, OnFalse};
 ghost use Rattle.std.specs.Io.KnownBytes.{IsAtEnd};
 ghost use Rattle.outside.specs.Counts.{CountsFile};
@@ -39,6 +39,7 @@ pub fn read_file<S: Shelf>(
     ensures told { IfSome (S.held shelf.old) (λ files. AnswersFile (bytes_of files name.now) limit result) }
     ensures taken { IfSome (S.held shelf.old) (λ files.
         LeavesFile (bytes_of files name.now) limit result (S.left shelf.new)) }
+    ensures last { result ≡ Err FileFault.Read → IsTrue (S.failed shelf.new) }
     ensures counts { CountsFile (S.faults shelf.old) (S.faults shelf.new)
         (S.absences shelf.old) (S.absences shelf.new) result }
 {
@@ -56,6 +57,7 @@ fn read_rest<S: Shelf>(alloc: Global, shelf: &mut S, limit: u64) -> Result<Bytes
     ensures told { IfSome (S.left shelf.old) (λ file. AnswersFile (Some file) limit result) }
     ensures taken { IfSome (S.left shelf.old) (λ file. LeavesFile (Some file) limit result (S.left shelf.new)) }
     ensures present { result ≢ Err FileFault.Absent }
+    ensures last { result ≡ Err FileFault.Read → IsTrue (S.failed shelf.new) }
     ensures counts { CountsFile (S.faults shelf.old) (S.faults shelf.new)
         (S.absences shelf.old) (S.absences shelf.new) result }
 {
@@ -78,6 +80,7 @@ fn read_by<S: Shelf>(
     ensures told { IfSome (S.left shelf.old) (λ file. AnswersFile (Some file) limit result) }
     ensures taken { IfSome (S.left shelf.old) (λ file. LeavesFile (Some file) limit result (S.left shelf.new)) }
     ensures present { result ≢ Err FileFault.Absent }
+    ensures last { result ≡ Err FileFault.Read → IsTrue (S.failed shelf.new) }
     ensures counts { CountsFile (S.faults shelf.old) (S.faults shelf.new)
         (S.absences shelf.old) (S.absences shelf.new) result }
 {
@@ -109,6 +112,7 @@ fn read_piece<S: Shelf>(
     ensures taken { OnErr result ((whole : List ℕ) → IsWhole bytes.old (S.left shelf.old) whole
         → TakesAtMost (limit + 1) (Some whole) (S.left shelf.new)) }
     ensures present { result ≢ Err FileFault.Absent }
+    ensures last { result ≡ Err FileFault.Read → IsTrue (S.failed shelf.new) }
     ensures counts { CountsFile (S.faults shelf.old) (S.faults shelf.new)
         (S.absences shelf.old) (S.absences shelf.new) result }
 {

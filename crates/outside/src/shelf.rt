@@ -1,5 +1,5 @@
 //! Named files to read from.
-ghost use Rattle.std.specs.Prelude.{◌≡◌, Bool, false, ℕ, List, Option, None, is_some, IfOk, IfSome, OnErr};
+ghost use Rattle.std.specs.Prelude.{◌≡◌, ◌↔◌, Bool, false, IsTrue, ℕ, List, Option, None, is_some, IsErr, IfOk, IfSome, OnErr};
 ghost use Rattle.std.specs.Io.{ReadsAtMost};
 ghost use Rattle.std.specs.Io.KnownBytes.{ReadConsumes};
 ghost use Rattle.outside.specs.Counts.{CountsBegin, CountsRead};
@@ -23,6 +23,9 @@ pub trait Shelf {
     /// The bytes of the current file from the place on, where the shelf tells.
     ghost left: { Self → Option (List ℕ) };
 
+    /// Whether the last call failed.
+    ghost failed: { Self → Bool };
+
     /// How many calls have failed. The count stops at 2^64 - 1.
     ghost faults: { Self → ℕ };
 
@@ -34,10 +37,11 @@ pub trait Shelf {
     fn begin(&mut self, name: &str) -> Result<bool, Failed>
         ensures held { held self.new ≡ held self.old }
         ensures open { IfOk result (λ found. is_open self.new ≡ found) }
-        ensures failed { OnErr result (is_open self.new ≡ false) }
+        ensures shut { OnErr result (is_open self.new ≡ false) }
         ensures closed { is_open self.new ≡ false → left self.new ≡ None }
         ensures told { IfSome (held self.old) (λ files. IfOk result (λ found.
             (found ≡ is_some (bytes_of files name.now)) × (left self.new ≡ bytes_of files name.now))) }
+        ensures last { IsTrue (failed self.new) ↔ IsErr result }
         ensures counts { CountsBegin (faults self.old) (faults self.new)
             (absences self.old) (absences self.new) result };
 
@@ -46,10 +50,12 @@ pub trait Shelf {
     fn read(&mut self, buf: &mut [u8]) -> Result<usize, Failed>
         ensures held { held self.new ≡ held self.old }
         ensures open { is_open self.new ≡ is_open self.old }
-        ensures closed { is_open self.old ≡ false → IfOk result (λ n. n ≡ 0) }
+        ensures nothing { is_open self.old ≡ false → IfOk result (λ n. n ≡ 0) }
+        ensures closed { is_open self.new ≡ false → left self.new ≡ None }
         ensures bound { ReadsAtMost result buf.new }
         ensures bytes { ReadConsumes (left self.old) (left self.new) result buf.new }
-        ensures failed { OnErr result (left self.new ≡ left self.old) }
+        ensures stays { OnErr result (left self.new ≡ left self.old) }
+        ensures last { IsTrue (failed self.new) ↔ IsErr result }
         ensures counts { CountsRead (faults self.old) (faults self.new)
             (absences self.old) (absences self.new) result };
 }

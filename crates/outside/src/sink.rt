@@ -1,5 +1,5 @@
 //! Where bytes are written.
-ghost use Rattle.std.specs.Prelude.{◌≡◌, ◌<◌, Bool, IsTrue, ℕ, List, length, Option, IfOk, Err};
+ghost use Rattle.std.specs.Prelude.{◌≡◌, ◌↔◌, ◌<◌, Bool, IsTrue, ℕ, List, length, Option, IfOk, Err};
 ghost use Rattle.std.specs.Io.{WritesAtMost};
 ghost use Rattle.std.specs.Io.KnownBytes.{WriteAppends};
 ghost use Rattle.outside.specs.Counts.{CountsWrite};
@@ -18,6 +18,9 @@ pub trait Sink {
     /// The bytes written so far, where the sink tells.
     ghost written: { Self → Option (List ℕ) };
 
+    /// Whether the last call failed.
+    ghost failed: { Self → Bool };
+
     /// Whether the sink wants memory. It never changes.
     ghost wants: { Self → Bool };
 
@@ -30,6 +33,7 @@ pub trait Sink {
         ensures progress { IfOk result (λ n. 0 < length piece.now → 0 < n) }
         ensures bytes { WriteAppends (written self.old) (written self.new) result piece.now }
         ensures memory { result ≡ Err Stop.NoMemory → IsTrue (wants self.old) }
+        ensures last { IsTrue (failed self.new) ↔ (result ≡ Err Stop.Failed) }
         ensures wants { wants self.new ≡ wants self.old }
         ensures counts { CountsWrite (faults self.old) (faults self.new) result };
 }

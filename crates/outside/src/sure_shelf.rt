@@ -1,5 +1,5 @@
 //! A shelf in memory that does not fail.
-ghost use Rattle.std.specs.Prelude.{◌≡◌, [], ◌∷◌, ◌++◌, None, Some, is_some, OnOk, OnErr};
+ghost use Rattle.std.specs.Prelude.{◌≡◌, false, [], ◌∷◌, ◌++◌, None, Some, is_some, OnOk, OnErr};
 ghost use Rattle.outside.specs.Files.{bytes_of};
 
 use crate::files::Files;
@@ -61,6 +61,8 @@ impl Shelf for SureShelf {
     ghost is_open = { λ s. is_some s.opened.left };
 
     ghost left = { λ s. s.opened.left };
+
+    ghost failed = { λ s. false };
 
     ghost faults = { λ s. 0 };
 

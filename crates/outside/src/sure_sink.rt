@@ -1,5 +1,5 @@
 //! A sink in memory that does not fail.
-ghost use Rattle.std.specs.Prelude.{◌≡◌, [], Some, true};
+ghost use Rattle.std.specs.Prelude.{◌≡◌, [], Some, true, false};
 
 use crate::{Bytes, Sink, Stop};
 use std::alloc::{AllocError, Global};
@@ -39,6 +39,8 @@ impl SureSink {
 
 impl Sink for SureSink {
     ghost written = { λ s. Some s };
+
+    ghost failed = { λ s. false };
 
     ghost wants = { λ s. true };
 

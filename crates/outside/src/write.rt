@@ -14,6 +14,7 @@ pub fn write_all<W: Sink>(sink: &mut W, bytes: &[u8]) -> Result<(), Stop>
     ensures err { OnErr result (AppendsFront (W.written sink.old) (W.written sink.new) bytes.now) }
     ensures nothing { bytes.now ≡ [] → IsOk result }
     ensures memory { result ≡ Err Stop.NoMemory → IsTrue (W.wants sink.old) }
+    ensures last { result ≡ Err Stop.Failed → IsTrue (W.failed sink.new) }
     ensures wants { W.wants sink.new ≡ W.wants sink.old }
     ensures counts { CountsWrite (W.faults sink.old) (W.faults sink.new) result }
 {

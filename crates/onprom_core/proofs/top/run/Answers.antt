@@ -1,44 +1,49 @@
 use Rattle.onprom_core.specs.Shown.{shown}
 use Rattle.onprom_core.proofs.Ends.{ends_from, written_from, reporting_from, early_from, faulted_from, complete_from}
-use Rattle.onprom_core.proofs.Headlines.{extracts_from}
+use Rattle.onprom_core.proofs.Headlines.{extracts_from, sound_from}
 use Rattle.onprom_core.proofs.top.run.Goals as goal
 
 pub returns-in-Ok-clause-ends : goal.returns-in-Ok-clause-ends
 returns-in-Ok-clause-ends g c =
-    ends_from c.args.words.now (g.S.Shelf.held c.args.shelf.now) (g.S.Shelf.faults c.args.shelf.now) (g.S.Shelf.faults c.decide.new.shelf) (shown c.in-Ok.decided)
+    ends_from c.args.words.now (g.S.Shelf.held c.args.shelf.now) (g.S.Shelf.faults c.args.shelf.now) (g.S.Shelf.faults c.decide.new.shelf)
+    (g.S.Shelf.absences c.args.shelf.now) (g.S.Shelf.absences c.decide.new.shelf) (shown c.in-Ok.decided)
     (g.O.Sink.written c.args.out.now) (g.O.Sink.written c.deliver.new.out) (g.R.Sink.written c.args.report.now) (g.R.Sink.written c.deliver.new.report)
     c.deliver.result c.in-Ok.ensures.decided c.deliver.ensures.delivered
 
 pub returns-in-Ok-clause-written : goal.returns-in-Ok-clause-written
 returns-in-Ok-clause-written g c =
-    written_from c.args.words.now (g.S.Shelf.held c.args.shelf.now) (g.S.Shelf.faults c.args.shelf.now) (g.S.Shelf.faults c.decide.new.shelf) (shown c.in-Ok.decided)
+    written_from c.args.words.now (g.S.Shelf.held c.args.shelf.now) (g.S.Shelf.faults c.args.shelf.now) (g.S.Shelf.faults c.decide.new.shelf)
+    (g.S.Shelf.absences c.args.shelf.now) (g.S.Shelf.absences c.decide.new.shelf) (shown c.in-Ok.decided)
     (g.O.Sink.written c.args.out.now) (g.O.Sink.written c.deliver.new.out) (g.R.Sink.written c.args.report.now) (g.R.Sink.written c.deliver.new.report)
-    c.deliver.result c.in-Ok.ensures.decided c.deliver.ensures.delivered
+    c.deliver.result c.in-Ok.ensures.decided c.deliver.ensures.delivered c.deliver.ensures.nothing
 
 pub returns-in-Ok-clause-reporting : goal.returns-in-Ok-clause-reporting
 returns-in-Ok-clause-reporting g c =
-    reporting_from c.args.words.now (g.S.Shelf.held c.args.shelf.now) (g.S.Shelf.faults c.args.shelf.now) (g.S.Shelf.faults c.decide.new.shelf) (shown c.in-Ok.decided)
+    reporting_from c.args.words.now (g.S.Shelf.held c.args.shelf.now) (g.S.Shelf.faults c.args.shelf.now) (g.S.Shelf.faults c.decide.new.shelf)
+    (g.S.Shelf.absences c.args.shelf.now) (g.S.Shelf.absences c.decide.new.shelf) (shown c.in-Ok.decided)
     (g.O.Sink.written c.args.out.now) (g.O.Sink.written c.deliver.new.out) (g.R.Sink.written c.args.report.now) (g.R.Sink.written c.deliver.new.report)
     c.deliver.result c.in-Ok.ensures.decided c.deliver.ensures.delivered
 
 pub returns-in-Ok-clause-early : goal.returns-in-Ok-clause-early
 returns-in-Ok-clause-early g c =
-    early_from c.args.words.now (g.S.Shelf.held c.args.shelf.now) (g.S.Shelf.faults c.args.shelf.now) (g.S.Shelf.faults c.decide.new.shelf) (shown c.in-Ok.decided)
+    early_from c.args.words.now (g.S.Shelf.held c.args.shelf.now) (g.S.Shelf.faults c.args.shelf.now) (g.S.Shelf.faults c.decide.new.shelf)
+    (g.S.Shelf.absences c.args.shelf.now) (g.S.Shelf.absences c.decide.new.shelf) (shown c.in-Ok.decided)
     (g.O.Sink.written c.args.out.now) (g.O.Sink.written c.deliver.new.out) (g.R.Sink.written c.args.report.now) (g.R.Sink.written c.deliver.new.report)
     c.deliver.result c.in-Ok.ensures.decided c.deliver.ensures.delivered
 
 pub returns-in-Ok-clause-faulted : goal.returns-in-Ok-clause-faulted
 returns-in-Ok-clause-faulted g c =
-    faulted_from c.args.words.now (g.S.Shelf.held c.args.shelf.now) (g.S.Shelf.faults c.args.shelf.now) (g.S.Shelf.faults c.decide.new.shelf) (shown c.in-Ok.decided)
+    faulted_from c.args.words.now (g.S.Shelf.held c.args.shelf.now) (g.S.Shelf.faults c.args.shelf.now) (g.S.Shelf.faults c.decide.new.shelf)
+    (g.S.Shelf.absences c.args.shelf.now) (g.S.Shelf.absences c.decide.new.shelf) (shown c.in-Ok.decided)
     (g.O.Sink.written c.args.out.now) (g.O.Sink.written c.deliver.new.out) (g.R.Sink.written c.args.report.now) (g.R.Sink.written c.deliver.new.report)
     c.deliver.result c.in-Ok.ensures.decided c.deliver.ensures.delivered
 
 pub returns-in-Ok-clause-complete : goal.returns-in-Ok-clause-complete
 returns-in-Ok-clause-complete g c =
-    complete_from c.args.words.now (g.S.Shelf.held c.args.shelf.now) (g.S.Shelf.faults c.args.shelf.now) (g.S.Shelf.faults c.decide.new.shelf) (shown c.in-Ok.decided)
+    complete_from c.args.words.now (g.S.Shelf.held c.args.shelf.now) (g.S.Shelf.faults c.args.shelf.now) (g.S.Shelf.faults c.decide.new.shelf)
+    (g.S.Shelf.absences c.args.shelf.now) (g.S.Shelf.absences c.decide.new.shelf) (shown c.in-Ok.decided)
     (g.O.Sink.written c.args.out.now) (g.O.Sink.written c.deliver.new.out) (g.R.Sink.written c.args.report.now) (g.R.Sink.written c.deliver.new.report)
     c.deliver.result c.in-Ok.ensures.decided c.deliver.ensures.delivered
-    (g.S.Shelf.absences c.args.shelf.now) (g.S.Shelf.absences c.decide.new.shelf)
     (g.O.Sink.faults c.args.out.now) (g.O.Sink.faults c.deliver.new.out) (g.R.Sink.faults c.args.report.now) (g.R.Sink.faults c.deliver.new.report)
     c.in-Ok.ensures.counts c.deliver.ensures.write c.deliver.ensures.report
 
@@ -48,3 +53,8 @@ returns-in-Ok-clause-headline g c =
     (g.O.Sink.faults c.args.out.now) (g.O.Sink.faults c.deliver.new.out) (g.R.Sink.faults c.args.report.now) (g.R.Sink.faults c.deliver.new.report)
     (g.O.Sink.written c.args.out.now) (g.O.Sink.written c.deliver.new.out) (g.R.Sink.written c.args.report.now) (g.R.Sink.written c.deliver.new.report)
     c.deliver.result (g.S.Shelf.held c.args.shelf.now) (returns-in-Ok-clause-ends g c) (returns-in-Ok-clause-complete g c)
+
+pub returns-in-Ok-clause-sound : goal.returns-in-Ok-clause-sound
+returns-in-Ok-clause-sound g c =
+    sound_from c.args.words.now (g.O.Sink.written c.args.out.now) (g.O.Sink.written c.deliver.new.out) (g.R.Sink.written c.args.report.now) (g.R.Sink.written c.deliver.new.report)
+    c.deliver.result (shown c.in-Ok.decided) (g.S.Shelf.held c.args.shelf.now) c.in-Ok.ensures.job c.deliver.ensures.delivered

@@ -1,0 +1,141 @@
+-- What walks that come to their job have read: the step that went on went on with what it says.
+use Rattle.std.proofs.Common.{◌≡◌, refl, sym, ◌∙◌, ap, subst, ℕ, ◌+◌, ◌≤◌, Bool, true, false, List, [], ◌∷◌, Option, Some, None, Result, Ok, Err, codes, arith, length, nat_lt, if◌then◌else◌}
+use Rattle.std.proofs.lemmas.Bool.Decides.{nat_tests}
+use Rattle.outside.specs.Files.{bytes_of}
+use Rattle.line_lexer.specs.Faults.{limit_of, name_of}
+use Rattle.line_lexer.specs.declared.fault.Counted.TheVariants.{File, TablesTogether}
+use Rattle.source_tables.specs.declared.decl.TableDecl.{TableDecl}
+use Rattle.source_tables.specs.declared.fault.TableFault.{TableFault}
+use Rattle.source_tables.specs.declared.fault.TableFault.TheVariants as tf
+use Rattle.source_tables.specs.Tables.{Loaded, table_of}
+use Rattle.annotation_language.specs.Complete.{Lack, Case, Cases, Time, Activity, lack_of}
+use Rattle.project_language.specs.declared.fault.ProjectFault.{ProjectFault}
+use Rattle.project_language.specs.declared.fault.ProjectFault.TheVariants as pf
+use Rattle.project_language.specs.declared.project.Project.{Project}
+use Rattle.project_language.specs.Project.{read_project}
+use Rattle.onprom_core.specs.declared.halt.Stopped.{Stopped}
+use Rattle.onprom_core.specs.declared.status.Status.TheVariants as status
+use Rattle.onprom_core.specs.Commands.{Command, Extract}
+use Rattle.onprom_core.specs.Headline.{AreTables, IsAcceptedProject, IsHeld, IsReadProject}
+use Rattle.onprom_core.specs.Lines.{limit_line}
+use Rattle.onprom_core.specs.Steps.{Step, bind_end, goes, ◌>>=◌}
+use Rattle.onprom_core.specs.Walk.{Files, Job, Extracting, command_step, complete_step, extract_step, file_step, held_step, job_step, lack_step, loaded_step, one_table, project_step, read_step, sources_step, stop, table_step, tables_step, together_step, walk}
+
+-- a step behind a step: both went on
+pub back : {A B : Type 0} (m : Step A) (f : A → Step B) (w : B) → (m >>= f).end ≡ Ok w → (v : A) × (m.end ≡ Ok v) × ((f v).end ≡ Ok w)
+back {A} {B} m f w = by m.end refl
+  where
+    by : (o : Result A Stopped) → m.end ≡ o → (bind_end m.begun o f).end ≡ Ok w → (v : A) × (m.end ≡ Ok v) × ((f v).end ≡ Ok w)
+    by (Ok v) is e = (v, is, e)
+    by (Err s) is e = absurd cc
+
+-- a count that is not past its number is within it
+within : (limit n : ℕ) → nat_lt limit n ≡ false → n ≤ limit
+within limit n fits = grind (arith, nat_tests, fits)
+
+-- a file went on: it is held
+held_back : (files : Files) (name bytes : List ℕ) → (file_step files name).end ≡ Ok bytes → IsHeld files name bytes
+held_back files name bytes = by (bytes_of files name) refl
+  where
+    by : (o : Option (List ℕ)) → bytes_of files name ≡ o → (held_step name o).end ≡ Ok bytes → IsHeld files name bytes
+    by None is e = absurd cc
+    by (Some b) is e = at (nat_lt (limit_of File) (length b)) refl e
+      where
+        at : (t : Bool) → nat_lt (limit_of File) (length b) ≡ t → (if t then stop status.Limit (limit_line (name_of File)) else goes b).end ≡ Ok bytes → IsHeld files name bytes
+        at true lt e = absurd cc
+        at false lt e = let same : b ≡ bytes = cc in (is ∙ ap (λ x. Some x) same, subst (λ x. length x ≤ limit_of File) same (within (limit_of File) (length b) lt))
+
+-- tables together went on: they are not too long
+together_back : (total v : ℕ) → (together_step total).end ≡ Ok v → (total ≤ limit_of TablesTogether) × (v ≡ total)
+together_back total v = at (nat_lt (limit_of TablesTogether) total) refl
+  where
+    at : (t : Bool) → nat_lt (limit_of TablesTogether) total ≡ t → (if t then stop status.Limit (limit_line (name_of TablesTogether)) else goes total).end ≡ Ok v → (total ≤ limit_of TablesTogether) × (v ≡ total)
+    at true lt e = absurd cc
+    at false lt e = (within (limit_of TablesTogether) total lt, cc)
+
+-- a table went on: it is the one of its text
+loaded_back : (decl : TableDecl) (v : Loaded) (o : Result Loaded TableFault) → (loaded_step decl o).end ≡ Ok v → o ≡ Ok v
+loaded_back decl v (Ok t) e = cc
+loaded_back decl v (Err (tf.Header c)) e = absurd cc
+loaded_back decl v (Err (tf.NotUtf8 r)) e = absurd cc
+loaded_back decl v (Err (tf.Width r)) e = absurd cc
+loaded_back decl v (Err (tf.BadCell r c)) e = absurd cc
+loaded_back decl v (Err (tf.BadChar r c)) e = absurd cc
+loaded_back decl v (Err (tf.NullKey r)) e = absurd cc
+loaded_back decl v (Err (tf.DoubleKey r s)) e = absurd cc
+loaded_back decl v (Err tf.TooManyRows) e = absurd cc
+loaded_back decl v (Err tf.NoMemory) e = absurd cc
+
+-- a project went on: it is the one of its text
+read_back : (p : List ℕ) (v : Project) (o : Result Project ProjectFault) → (read_step p o).end ≡ Ok v → o ≡ Ok v
+read_back p v (Ok project) e = cc
+read_back p v (Err (pf.NotUtf8 line)) e = absurd cc
+read_back p v (Err (pf.Line line kind)) e = absurd cc
+read_back p v (Err (pf.Limit what)) e = absurd cc
+read_back p v (Err pf.NoMemory) e = absurd cc
+
+-- annotations went on: they lack nothing
+lack_back : (p : List ℕ) (project v : Project) (o : Option Lack) → (lack_step p project o).end ≡ Ok v → (o ≡ None) × (project ≡ v)
+lack_back p project v None e = (refl, cc)
+lack_back p project v (Some Case) e = absurd cc
+lack_back p project v (Some (Cases line)) e = absurd cc
+lack_back p project v (Some (Time line)) e = absurd cc
+lack_back p project v (Some (Activity line)) e = absurd cc
+
+-- what a table was read from
+abbrev OneTable : Files → ℕ → TableDecl → Loaded × ℕ → Type 0
+OneTable files before decl read = (bytes : List ℕ) × IsHeld files decl.file bytes × (before + length bytes ≤ limit_of TablesTogether) × (table_of decl bytes ≡ Ok read.0) × (read.1 ≡ before + length bytes)
+
+one_back : (files : Files) (before : ℕ) (decl : TableDecl) (read : Loaded × ℕ) → (one_table files before decl).end ≡ Ok read → OneTable files before decl read
+unfolding one_table
+one_back files before decl read e =
+    let a = back (file_step files decl.file) _ read e in
+    let b = back (together_step (before + length a.0)) _ read a.2 in
+    let c = back (table_step decl a.0) _ read b.2 in
+    let t = together_back (before + length a.0) b.0 b.1 in
+    let pair : (c.0, b.0) ≡ read = cc in
+    subst (OneTable files before decl) pair (a.0, held_back files decl.file a.0 a.1, t.0, loaded_back decl c.0 (table_of decl a.0) c.1, t.1)
+
+tables_back : (files : Files) (before : ℕ) (decls : List TableDecl) (tables : List Loaded) → (tables_step files before decls).end ≡ Ok tables → AreTables files before decls tables
+unfolding tables_step
+tables_back files before [] [] e = tt
+tables_back files before [] (table ∷ tables) e = absurd cc
+tables_back files before (decl ∷ decls) tables e =
+    let a = back (one_table files before decl) _ tables e in
+    let b = back (tables_step files a.0.1 decls) _ tables a.2 in
+    let one = one_back files before decl a.0 a.1 in
+    let rest = tables_back files a.0.1 decls b.0 b.1 in
+    let all : a.0.0 ∷ b.0 ≡ tables = cc in
+    subst (AreTables files before (decl ∷ decls)) all (one.0, one.1, one.2, one.3, subst (λ n. AreTables files n decls b.0) one.4 rest)
+
+-- the project and its tables went on: they are read
+pub project_back : (files : Files) (p : List ℕ) (project : Project) (tables : List Loaded) → (project_step files p).end ≡ Ok project → (sources_step files project).end ≡ Ok tables → IsReadProject files p project tables
+project_back files p project tables first second =
+    let r = back (file_step files p) _ project first in record {
+      bytes = r.0;
+      held = held_back files p r.0 r.1;
+      read = read_back p project (read_project r.0) r.2;
+      loaded = tables_back files 0 project.sources.tables tables second;
+    }
+
+-- the words name a command: the job is that of the command
+pub job_back : (files : Files) (words : List (List ℕ)) (command : Command) (job : Job) → (command_step words).end ≡ Ok command → (walk words files).end ≡ Ok job → (job_step files command).end ≡ Ok job
+unfolding walk
+job_back files words command job named e =
+    let a = back (command_step words) (job_step files) job e in
+    let same : command ≡ a.0 = cc in
+    subst (λ c. (job_step files c).end ≡ Ok job) (sym same) a.2
+
+-- the walk of `extract` comes to the job of an accepted project
+pub accepted : (files : Files) (p : List ℕ) (job : Job) → (walk (codes "extract" ∷ p ∷ []) files).end ≡ Ok job
+    → (project : Project) × (tables : List Loaded) × IsAcceptedProject files p project tables × (job ≡ Extracting project tables)
+unfolding extract_step
+accepted files p job e =
+    let f : (extract_step files p).end ≡ Ok job = job_back files (codes "extract" ∷ p ∷ []) (Extract p) job refl e in
+    let b = back (project_step files p) _ job f in
+    let c = back (complete_step p b.0) _ job b.2 in
+    let d = back (sources_step files c.0) _ job c.2 in
+    let l = lack_back p b.0 c.0 (lack_of b.0.noted.notes) c.1 in
+    let loaded : (sources_step files b.0).end ≡ Ok d.0 = subst (λ x. (sources_step files x).end ≡ Ok d.0) (sym l.1) d.1 in
+    let is_job : job ≡ Extracting c.0 d.0 = cc in
+    (b.0, d.0, record { read = project_back files p b.0 d.0 b.1 loaded; complete = l.0 }, is_job ∙ ap (λ x. Extracting x d.0) (sym l.1))

@@ -1,0 +1,78 @@
+-- What a project and its tables mean: axioms and constraints, facts, certain answers, consistency, the log and the contradictions.
+use Rattle.std.specs.Prelude.{◌≡◌, ℕ, ◌≤◌, List, length, map, Some}
+use Rattle.std.specs.List.Sorted.{IsStrictlySortedBy}
+use Rattle.std.specs.Ordering.{nat_cmp}
+use Rattle.vocabulary.specs.Lists.{In, item}
+use Rattle.vocabulary.specs.declared.term.Fact.{Fact}
+use Rattle.line_lexer.specs.Faults.{limit_of}
+use Rattle.line_lexer.specs.declared.fault.Counted.TheVariants.{Steps}
+use Rattle.dllite_axioms.specs.declared.axioms.Constraint.{Constraint}
+use Rattle.dllite_axioms.specs.declared.axioms.Tbox.{Tbox}
+use Rattle.dllite_axioms.specs.Clashes.{IsContradicted, IsConsistent}
+use Rattle.uml_model.specs.Axioms.{axioms_of, constraints_of}
+use Rattle.source_tables.specs.Tables.{Loaded}
+use Rattle.mapping_facts.specs.Facts.{mapped_facts}
+use Rattle.queries.specs.declared.query.Query.{Query}
+use Rattle.certain_semantics.specs.Certain.{IsCertain}
+use Rattle.perfect_rewriting.specs.Rewriting.{IsTooWide}
+use Rattle.xes_writer.specs.declared.log.Log.{Log}
+use Rattle.xes_writer.specs.Xes.{xes_text}
+use Rattle.log_assembly.specs.Asked.{Certain}
+use Rattle.log_assembly.specs.Answered.{Asks}
+use Rattle.log_assembly.specs.TheLog.{IsLog}
+use Rattle.log_assembly.specs.TheReport.{IsReport}
+use Rattle.conflict_checker.specs.declared.derivation.Derivation.{Derivation}
+use Rattle.conflict_checker.specs.Derivations.{IsAccepted}
+use Rattle.derivation_text.specs.Writing.{derivations_text}
+use Rattle.project_language.specs.declared.project.Project.{Project}
+
+-- what the model lines mean
+abbrev pub tbox : Project → Tbox
+tbox project = record { axioms = axioms_of project.model.lines; constraints = constraints_of project.model.lines }
+
+-- what the tables say
+abbrev pub facts : Project → List Loaded → List Fact
+facts project tables = mapped_facts project.sources.mappings tables
+
+-- the certain answers over the chase of the mapped facts
+abbrev pub certain : Project → List Loaded → Certain
+certain project tables = IsCertain (tbox project).axioms (facts project tables)
+
+-- no round of the chase of the mapped facts holds a clash
+abbrev pub IsConsistentProject : Project → List Loaded → Type 0
+IsConsistentProject project tables = IsConsistent (tbox project).axioms (tbox project).constraints (facts project tables)
+
+-- a query has too many rewritings to be answered
+abbrev pub IsTooWideToAnswer : Project → Query → Type 0
+IsTooWideToAnswer project q = IsTooWide (tbox project).axioms q
+
+-- a query has too many rewritings to be printed
+abbrev pub IsTooWideToRewrite : Project → Query → Type 0
+IsTooWideToRewrite project q = IsTooWide (tbox project).axioms q
+
+-- one of the queries that a log asks has too many
+abbrev pub IsWide : Project → Type 0
+IsWide project = (q : Query) × Asks project.noted.notes q × IsTooWideToAnswer project q
+
+-- the texts are those of the one log and of its report
+pub record IsExtracted (project : Project) (tables : List Loaded) (out report : List ℕ) : Type 0 where
+  pub log : Log (List ℕ)
+  pub the_log : IsLog (certain project tables) project.noted.notes log
+  pub text : out ≡ xes_text log
+  pub reported : IsReport (certain project tables) project.noted.notes log report
+
+-- one accepted derivation for each contradicted constraint and for no other, in the order of the constraints
+pub record AreContradictions (project : Project) (tables : List Loaded) (ds : List Derivation) : Type 0 where
+  pub accepted : (d : Derivation) → In d ds → IsAccepted (tbox project) project.sources.mappings tables d
+  pub short : (d : Derivation) → In d ds → length d.steps ≤ limit_of Steps
+  pub each_once : IsStrictlySortedBy nat_cmp (map (λ d. d.constraint) ds)
+  pub all : (n : ℕ) (c : Constraint) → item (tbox project).constraints n ≡ Some c → IsContradicted (tbox project).axioms (facts project tables) c → In n (map (λ d. d.constraint) ds)
+  pub no_other : (d : Derivation) → In d ds → (c : Constraint) × (item (tbox project).constraints d.constraint ≡ Some c) × IsContradicted (tbox project).axioms (facts project tables) c
+
+-- the names of the mappings
+abbrev pub mapping_names : Project → List (List ℕ)
+mapping_names project = map (λ m. m.name) project.sources.mappings
+
+-- the text of derivations, by the names of the project's mappings
+abbrev pub spelled : Project → List Derivation → List ℕ
+spelled project ds = derivations_text (mapping_names project) ds
