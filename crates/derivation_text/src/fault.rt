@@ -1,4 +1,8 @@
 //! Why a text is no list of derivations.
+ghost use Rattle.std.specs.Prelude.{◌≡◌};
+ghost use Rattle.derivation_text.specs.declared.fault.DerivationFault.TheVariants.{NoMemory};
+
+use std::alloc::AllocError;
 
 /// The first fault of a text, with its line, counted from 1.
 #[derive(Clone, Copy, Debug, PartialEq, Eq)]
@@ -9,7 +13,15 @@ pub enum DerivationFault {
     Unknown(u32),
     /// A step has not the next number, or names a step that does not stand before it or is not there.
     BadStep(u32),
-    /// A derivation has more than 5,000 steps.
+    /// A derivation has more than 8,000 steps.
     TooLong,
     NoMemory,
+}
+
+impl From<AllocError> for DerivationFault {
+    ghost from_gives = { λ _ e. e ≡ NoMemory };
+
+    fn from(_: AllocError) -> Self {
+        DerivationFault::NoMemory
+    }
 }
