@@ -126,5 +126,5 @@ accepted_is_contradicted tbox mappings tables d c accepted numbered =
     let same : accepted.constraint ≡ c = cc in
     let ends = accepted.ends in
     let stand = together tbox.axioms mappings tables ends.0
-        (λ f i. steps_derived tbox.axioms mappings tables [] d.steps accepted.facts (λ g j. elim j [ ]) accepted.steps f (items_in accepted.facts d.ends ends.0 ends.1 f i)) in
+    (λ f i. steps_derived tbox.axioms mappings tables [] d.steps accepted.facts (λ g j. elim j [ ]) accepted.steps f (items_in accepted.facts d.ends ends.0 ends.1 f i)) in
     subst (IsContradicted tbox.axioms (mapped_facts mappings tables)) same (record { round = stand.0; clashing = ends.0; stand = stand.1; clash = ends.2 })

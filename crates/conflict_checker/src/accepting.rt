@@ -77,12 +77,7 @@ pub fn accepts(
         return Ok(false);
     };
     match facts(alloc, derivation.steps.items(), tbox, mappings, tables)? {
-        Some(facts) => are_clashing(
-            alloc,
-            constraint,
-            facts.items(),
-            derivation.ends.items(),
-        ),
+        Some(facts) => are_clashing(alloc, constraint, facts.items(), derivation.ends.items()),
         None => Ok(false),
     }
 }

@@ -115,14 +115,7 @@ pub fn facts(
 {
     let mut facts = List::new(alloc);
     for step in steps {
-        match step_fact(
-            alloc,
-            step,
-            facts.items(),
-            tbox.axioms(),
-            mappings,
-            tables,
-        )? {
+        match step_fact(alloc, step, facts.items(), tbox.axioms(), mappings, tables)? {
             Some(fact) => facts.push(fact)?,
             None => return Ok(None),
         }

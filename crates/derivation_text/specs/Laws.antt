@@ -1,5 +1,5 @@
--- The law of accepted derivations, as `laws` states it.
-use Rattle.std.specs.Prelude.{◌<◌, ◌≤◌, ◌-◌, ◌^◌, List, length}
+-- The laws of texts and of accepted derivations, as the functions of `laws` state them.
+use Rattle.std.specs.Prelude.{◌≡◌, ◌↔◌, ◌<◌, ◌≤◌, ◌-◌, ◌^◌, ℕ, List, length, Ok}
 use Rattle.vocabulary.specs.Lists.{In}
 use Rattle.dllite_axioms.specs.declared.axioms.Tbox.{Tbox}
 use Rattle.source_tables.specs.Tables.{Loaded}
@@ -7,8 +7,13 @@ use Rattle.mapping_facts.specs.declared.mapping.Mapping.{Mapping}
 use Rattle.mapping_facts.specs.Fits.{AreFit}
 use Rattle.conflict_checker.specs.declared.derivation.Derivation.{Derivation}
 use Rattle.conflict_checker.specs.Derivations.{IsAccepted}
-use Rattle.derivation_text.specs.Reading.{steps_limit}
-use Rattle.derivation_text.specs.Spelling.{IsWellFormed}
+use Rattle.derivation_text.specs.Reading.{derivations_of, steps_limit}
+use Rattle.derivation_text.specs.Spelling.{AreWellFormed, IsWellFormed, Spells}
+
+-- a text is read as derivations exactly where there are some, they are well formed, and the text spells them
+abbrev pub ReadingIsSpelling : Type 0
+ReadingIsSpelling = (names : List (List ℕ)) (text : List ℕ) (ds : List Derivation) →
+    (derivations_of names text ≡ Ok ds) ↔ ((1 ≤ length ds) × AreWellFormed (length names) ds × Spells names text ds)
 
 -- 32 bits number what is cited
 pub record AreNumbered (tbox : Tbox) (mappings : List Mapping) (tables : List Loaded) : Type 0 where

@@ -4,7 +4,7 @@ ghost use Rattle.std.specs.List.{flat_map};
 ghost use Rattle.vocabulary.specs.Lists.{item};
 ghost use Rattle.line_lexer.specs.Names.{AreNames};
 ghost use Rattle.derivation_text.specs.Reading.{derivations_of};
-ghost use Rattle.derivation_text.specs.Spelling.{AreWellFormed};
+ghost use Rattle.derivation_text.specs.Spelling.{AreWellFormed, Spells};
 ghost use Rattle.derivation_text.specs.Writing.{clash_line, conflict_line, derivation_lines, derivations_text, lines_text, spaced, step_line, step_lines, text_or_none};
 
 use conflict_checker::{Derivation, Step, item};
@@ -126,15 +126,12 @@ fn push_derivation(
 
 /// The text of the derivations, in which the mappings stand by their names. Read again, it gives the
 /// list.
-pub fn write(
-    alloc: Global,
-    list: &[Derivation],
-    mappings: &[Mapping],
-) -> Result<Name, AllocError>
+pub fn write(alloc: Global, list: &[Derivation], mappings: &[Mapping]) -> Result<Name, AllocError>
     requires names { AreNames (map (λ m. m.name) mappings.now) }
     requires some { 1 ≤ length list.now }
     requires well_formed { AreWellFormed (length mappings.now) list.now }
     ensures text { IfOk result (λ text. text ≡ derivations_text (map (λ m. m.name) mappings.now) list.now) }
+    ensures spelled { IfOk result (λ text. Spells (map (λ m. m.name) mappings.now) text list.now) }
     ensures read { IfOk result (λ text. derivations_of (map (λ m. m.name) mappings.now) text ≡ Ok list.now) }
 {
     let mut text = String::new(alloc);
