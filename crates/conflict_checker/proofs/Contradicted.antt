@@ -38,19 +38,21 @@ item_in : {A : Type 0} (xs : List A) (n : ℕ) (x : A) → item xs n ≡ Some x 
 item_in xs zero x e = absurd cc
 item_in xs (suc n) x e = In-slice_get xs n x e
 
+mapped_some : {A B : Type 0} (f : A → B) (o : Option A) (y : B) → option_map f o ≡ Some y → (x : A) × (o ≡ Some x) × (f x ≡ y)
+mapped_some f None y e = absurd cc
+mapped_some f (Some x) y e = (x, refl, cc)
+
+same_some : {A : Type 0} (x y : A) → Some x ≡ Some y → x ≡ y
+same_some x y e = cc
+
 -- the items of numbers are items
 items_in : {A : Type 0} (xs : List A) (numbers : List ℕ) (found : List A) → items_at xs numbers ≡ Some found → (x : A) → In x found → In x xs
 items_in xs [] found e x i = let none : found ≡ [] = cc in elim (subst (In x) none i) [ ]
 items_in {A} xs (n ∷ numbers) found e x i =
     let one = then_some (λ y. option_map (λ more. y ∷ more) (items_at xs numbers)) (item xs n) found e in
-    let rest = then_some (λ more. Some (one.0 ∷ more)) (items_at xs numbers) found (onward (items_at xs numbers) one.0 ∙ one.2) in
-    let all : one.0 ∷ rest.0 ≡ found = cc in
-    by one.0 rest.0 (item_in xs n one.0 one.1) (items_in xs numbers rest.0 rest.1) (subst (In x) (sym all) i)
+    let rest = mapped_some (λ more. one.0 ∷ more) (items_at xs numbers) found one.2 in
+    by one.0 rest.0 (item_in xs n one.0 one.1) (items_in xs numbers rest.0 rest.1) (subst (In x) (sym rest.2) i)
   where
-    onward : (o : Option (List A)) (y : A) → option_and_then (λ more. Some (y ∷ more)) o ≡ option_map (λ more. y ∷ more) o
-    onward None y = refl
-    onward (Some more) y = refl
-
     by : (y : A) (more : List A) → In y xs → ((z : A) → In z more → In z xs) → In x (y ∷ more) → In x xs
     by y more first others (here e) = subst (λ z. In z xs) e first
     by y more first others (there j) = others x j
@@ -123,7 +125,7 @@ module _ (axioms : List Axiom) (mappings : List Mapping) (tables : List Loaded) 
 
 pub accepted_is_contradicted : AcceptedIsContradicted
 accepted_is_contradicted tbox mappings tables d c accepted numbered =
-    let same : accepted.constraint ≡ c = cc in
+    let same : accepted.constraint ≡ c = same_some accepted.constraint c (sym accepted.numbered ∙ numbered) in
     let ends = accepted.ends in
     let stand = together tbox.axioms mappings tables ends.0
     (λ f i. steps_derived tbox.axioms mappings tables [] d.steps accepted.facts (λ g j. elim j [ ]) accepted.steps f (items_in accepted.facts d.ends ends.0 ends.1 f i)) in

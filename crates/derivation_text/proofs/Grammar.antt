@@ -11,6 +11,7 @@ use Rattle.line_lexer.specs.Tokens.{tokens_of}
 use Rattle.conflict_checker.specs.declared.derivation.Step.{Step}
 use Rattle.conflict_checker.specs.declared.derivation.Step.TheVariants as steps
 use Rattle.conflict_checker.specs.declared.derivation.Derivation.{Derivation}
+use Rattle.derivation_text.specs.declared.fault.DerivationFault.TheVariants.{BadStep, TooLong}
 use Rattle.derivation_text.specs.declared.place.Place.{Place}
 use Rattle.derivation_text.specs.declared.place.Place.TheVariants.{Between, Within, Ended}
 use Rattle.derivation_text.specs.declared.said.Said.{Said}
@@ -62,8 +63,8 @@ taken : (done : List Derivation) (c : ℕ) (before : List Step) (k : ℕ) (sound
     (k ≡ length before + 1) × (sound ≡ true) × (length before < steps_limit) × (Within done c (before ++ (step ∷ [])) ≡ p)
 taken done c before k sound step p e = by (k == length before + 1) refl sound refl (nat_lt (length before) steps_limit) refl e
   where
-    by : (next : Bool) → (k == length before + 1) ≡ next → (s : Bool) → sound ≡ s → (few : Bool) → nat_lt (length before) steps_limit ≡ few →
-        ok_of (if not next || not s then Err _ else (if few then Ok (Within done c (before ++ (step ∷ []))) else Err _)) ≡ Some p →
+    by : (follows : Bool) → (k == length before + 1) ≡ follows → (s : Bool) → sound ≡ s → (few : Bool) → nat_lt (length before) steps_limit ≡ few →
+        ok_of (if not follows || not s then Err (BadStep 0) else (if few then Ok (Within done c (before ++ (step ∷ []))) else Err TooLong)) ≡ Some p →
         (k ≡ length before + 1) × (sound ≡ true) × (length before < steps_limit) × (Within done c (before ++ (step ∷ [])) ≡ p)
     by false n s i few l h = absurd cc
     by true n false i few l h = absurd cc
@@ -113,7 +114,7 @@ reached count (Within done c (step ∷ before)) (Clash ends) p some low sound e 
     d : Derivation
     d = record { constraint = c; steps = step ∷ before; ends = ends }
 
-    by : (b : Bool) → list_all (is_step (length (step ∷ before))) ends ≡ b → ok_of (if b then Ok (Between (done ++ (d ∷ []))) else Err _) ≡ Some p → Reaches count (Within done c (step ∷ before)) (Clash ends) p
+    by : (b : Bool) → list_all (is_step (length (step ∷ before))) ends ≡ b → ok_of (if b then Ok (Between (done ++ (d ∷ []))) else Err (BadStep 0)) ≡ Some p → Reaches count (Within done c (step ∷ before)) (Clash ends) p
     by false is h = absurd cc
     by true is h =
         let same : Between (done ++ (d ∷ [])) ≡ p = cc in

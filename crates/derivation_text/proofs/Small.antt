@@ -23,9 +23,9 @@ IsSmallSaid count (Clash ends) = 2 ≤ length ends
 IsSmallSaid count End = Unit {0}
 IsSmallSaid count Unreadable = Unit {0}
 
-then : {A B : Type 0} (f : A → Option B) (o : Option A) (y : B) → option_and_then f o ≡ Some y → (x : A) × (o ≡ Some x) × (f x ≡ Some y)
-then f None y e = absurd cc
-then f (Some x) y e = (x, refl, e)
+bound : {A B : Type 0} (f : A → Option B) (o : Option A) (y : B) → option_and_then f o ≡ Some y → (x : A) × (o ≡ Some x) × (f x ≡ Some y)
+bound f None y e = absurd cc
+bound f (Some x) y e = (x, refl, e)
 
 mapped : {A B : Type 0} (f : A → B) (o : Option A) (y : B) → option_map f o ≡ Some y → (x : A) × (o ≡ Some x) × (f x ≡ y)
 mapped f None y e = absurd cc
@@ -49,7 +49,7 @@ front_small (t ∷ ts) n e =
 all_small : (ts : List Seen) (ns : List ℕ) → numbers ts ≡ Some ns → AreSmall ns
 all_small [] ns e n i = let none : ns ≡ [] = cc in elim (subst (In n) none i) [ ]
 all_small (t ∷ ts) ns e n i =
-    let one = then (λ k. option_map (λ more. k ∷ more) (numbers ts)) (small t) ns e in
+    let one = bound (λ k. option_map (λ more. k ∷ more) (numbers ts)) (small t) ns e in
     let rest = mapped (λ more. one.0 ∷ more) (numbers ts) ns one.2 in
     by one.0 rest.0 (small_is t one.0 one.1) (all_small ts rest.0 rest.1) (subst (In n) (sym rest.2) i)
   where
@@ -88,23 +88,23 @@ module _ (names : List (List ℕ)) where
 
   conflict_small : (ts : List Seen) → OfKind (conflict_line ts)
   conflict_small ts s e =
-      let a = then (λ rest. option_and_then (λ n. alone (Conflict n.0) n.1) (small_number rest)) (expect (codes "conflict") ts) s e in
-      let b = then (λ n. alone (Conflict n.0) n.1) (small_number a.0) s a.2 in
+      let a = bound (λ rest. option_and_then (λ n. alone (Conflict n.0) n.1) (small_number rest)) (expect (codes "conflict") ts) s e in
+      let b = bound (λ n. alone (Conflict n.0) n.1) (small_number a.0) s a.2 in
       subst Small (only (Conflict b.0.0) b.0.1 s b.2) (front_small a.0 b.0 b.1)
 
   map_small : (ts : List Seen) → OfKind (map_line names ts)
   map_small ts s e =
-      let a = then (λ front. option_and_then (with_rows front.0 (mapping_number names front.1) front.2) (numbers front.3)) (map_front ts) s e in
-      let b = then (with_rows a.0.0 (mapping_number names a.0.1) a.0.2) (numbers a.0.3) s a.2 in
+      let a = bound (λ front. option_and_then (with_rows front.0 (mapping_number names front.1) front.2) (numbers front.3)) (map_front ts) s e in
+      let b = bound (with_rows a.0.0 (mapping_number names a.0.1) a.0.2) (numbers a.0.3) s a.2 in
       rows_small a.0.0 (mapping_number names a.0.1) a.0.2 b.0 (numbered a.0.1) (target_small a.0 a.1) (all_small a.0.3 b.0 b.1) b.2
     where
       target_small : (front : ℕ × List ℕ × ℕ × List Seen) → map_front ts ≡ Some front → front.2 < 2 ^ 32
       target_small front h =
-          let k = then (λ k. option_and_then (λ rest. option_and_then (λ name. option_and_then (λ target. option_and_then (λ rest. Some (k.0, name.0, target.0, rest)) (expect (codes "rows") target.1)) (small_number name.1)) (any_word rest)) (expect (codes "map") k.1)) (small_number ts) front h in
-          let r = then (λ rest. option_and_then (λ name. option_and_then (λ target. option_and_then (λ rest. Some (k.0.0, name.0, target.0, rest)) (expect (codes "rows") target.1)) (small_number name.1)) (any_word rest)) (expect (codes "map") k.0.1) front k.2 in
-          let n = then (λ name. option_and_then (λ target. option_and_then (λ rest. Some (k.0.0, name.0, target.0, rest)) (expect (codes "rows") target.1)) (small_number name.1)) (any_word r.0) front r.2 in
-          let t = then (λ target. option_and_then (λ rest. Some (k.0.0, n.0.0, target.0, rest)) (expect (codes "rows") target.1)) (small_number n.0.1) front n.2 in
-          let l = then (λ rest. Some (k.0.0, n.0.0, t.0.0, rest)) (expect (codes "rows") t.0.1) front t.2 in
+          let k = bound (λ k. option_and_then (λ rest. option_and_then (λ name. option_and_then (λ target. option_and_then (λ rest. Some (k.0, name.0, target.0, rest)) (expect (codes "rows") target.1)) (small_number name.1)) (any_word rest)) (expect (codes "map") k.1)) (small_number ts) front h in
+          let r = bound (λ rest. option_and_then (λ name. option_and_then (λ target. option_and_then (λ rest. Some (k.0.0, name.0, target.0, rest)) (expect (codes "rows") target.1)) (small_number name.1)) (any_word rest)) (expect (codes "map") k.0.1) front k.2 in
+          let n = bound (λ name. option_and_then (λ target. option_and_then (λ rest. Some (k.0.0, name.0, target.0, rest)) (expect (codes "rows") target.1)) (small_number name.1)) (any_word r.0) front r.2 in
+          let t = bound (λ target. option_and_then (λ rest. Some (k.0.0, n.0.0, target.0, rest)) (expect (codes "rows") target.1)) (small_number n.0.1) front n.2 in
+          let l = bound (λ rest. Some (k.0.0, n.0.0, t.0.0, rest)) (expect (codes "rows") t.0.1) front t.2 in
           let same : t.0.0 ≡ front.2 = ap (λ o. target_of o) l.2 in
           subst (λ m. m < 2 ^ 32) same (front_small n.0.1 t.0 t.1)
         where
@@ -122,17 +122,17 @@ module _ (names : List (List ℕ)) where
 
   rule_small : (ts : List Seen) → OfKind (rule_line ts)
   rule_small ts s e =
-      let k = then (λ k. option_and_then (λ rest. option_and_then (λ a. option_and_then (λ rest. option_and_then (λ j. alone (Rule k.0 a.0 j.0) j.1) (small_number rest)) (expect (codes "from") a.1)) (small_number rest)) (expect (codes "rule") k.1)) (small_number ts) s e in
-      let r = then (λ rest. option_and_then (λ a. option_and_then (λ rest. option_and_then (λ j. alone (Rule k.0.0 a.0 j.0) j.1) (small_number rest)) (expect (codes "from") a.1)) (small_number rest)) (expect (codes "rule") k.0.1) s k.2 in
-      let a = then (λ a. option_and_then (λ rest. option_and_then (λ j. alone (Rule k.0.0 a.0 j.0) j.1) (small_number rest)) (expect (codes "from") a.1)) (small_number r.0) s r.2 in
-      let f = then (λ rest. option_and_then (λ j. alone (Rule k.0.0 a.0.0 j.0) j.1) (small_number rest)) (expect (codes "from") a.0.1) s a.2 in
-      let j = then (λ j. alone (Rule k.0.0 a.0.0 j.0) j.1) (small_number f.0) s f.2 in
+      let k = bound (λ k. option_and_then (λ rest. option_and_then (λ a. option_and_then (λ rest. option_and_then (λ j. alone (Rule k.0 a.0 j.0) j.1) (small_number rest)) (expect (codes "from") a.1)) (small_number rest)) (expect (codes "rule") k.1)) (small_number ts) s e in
+      let r = bound (λ rest. option_and_then (λ a. option_and_then (λ rest. option_and_then (λ j. alone (Rule k.0.0 a.0 j.0) j.1) (small_number rest)) (expect (codes "from") a.1)) (small_number rest)) (expect (codes "rule") k.0.1) s k.2 in
+      let a = bound (λ a. option_and_then (λ rest. option_and_then (λ j. alone (Rule k.0.0 a.0 j.0) j.1) (small_number rest)) (expect (codes "from") a.1)) (small_number r.0) s r.2 in
+      let f = bound (λ rest. option_and_then (λ j. alone (Rule k.0.0 a.0.0 j.0) j.1) (small_number rest)) (expect (codes "from") a.0.1) s a.2 in
+      let j = bound (λ j. alone (Rule k.0.0 a.0.0 j.0) j.1) (small_number f.0) s f.2 in
       subst Small (only (Rule k.0.0 a.0.0 j.0.0) j.0.1 s j.2) (front_small r.0 a.0 a.1)
 
   clash_small : (ts : List Seen) → OfKind (clash_line ts)
   clash_small ts s e =
-      let a = then (λ rest. option_and_then with_ends (numbers rest)) (expect (codes "clash") ts) s e in
-      let b = then with_ends (numbers a.0) s a.2 in
+      let a = bound (λ rest. option_and_then with_ends (numbers rest)) (expect (codes "clash") ts) s e in
+      let b = bound with_ends (numbers a.0) s a.2 in
       by b.0 b.2
     where
       by : (ends : List ℕ) → with_ends ends ≡ Some s → Small s
@@ -142,7 +142,7 @@ module _ (names : List (List ℕ)) where
 
   end_small : (ts : List Seen) → OfKind (end_line ts)
   end_small ts s e =
-      let a = then (alone End) (expect (codes "end") ts) s e in
+      let a = bound (alone End) (expect (codes "end") ts) s e in
       subst Small (only End a.0 s a.2) tt
 
   first_small : (o : Option Said) (other : Said) → OfKind o → Small other → Small (first_of o other)
