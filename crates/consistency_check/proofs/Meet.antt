@@ -95,7 +95,6 @@ asked facts (TwoFillers p d) f g mf mg (s, t, u, e, e', kt, ku, apart) =
       matched = record { atoms = λ a i. both facts f g mf mg (link_atom p d 1) (link_atom p d 2) (three s t u) one two a i; head = (refl, (refl, tt)) };
       differ = (kt, ku, apart);
     }
-
 asked facts (TwoLinks q d p) f g mf mg (s, t, e, e') =
     let one = subst (AtomIs (three s t t) (link_atom q Fwd 1)) (sym e) (link_is (three s t t) q Fwd s t 1 refl refl) in
     let two = subst (AtomIs (three s t t) (link_atom p d 1)) (sym e') (link_is (three s t t) p d s t 1 refl refl) in
@@ -206,8 +205,7 @@ module _ (mappings : List Mapping) (tables : List Loaded) (fit : AreFit mappings
       (1 ≤ length u.origins) × All (λ n. n < 2 ^ 32 - 1) tuple × All IsSmallOrigin u.origins
   tuple_ready s u tuple few origins none m =
       let a = apart_tuple tables u.rows tuple none m in
-      let g = origins tables texts tuple a.0 in
-      (
+      let g = origins tables texts tuple a.0 in (
         some_origin (OriginGives mappings tables tuple g.terms) s u.origins g.facts,
         small_rows tables u.rows.query.tables tuple few (from_filter (is_asked tables u.rows) tuple (product tables u.rows.query.tables) a.0).0,
         small_origins mappings tables tuple g.terms (source_atoms s) u.origins fit g.facts,

@@ -1,5 +1,5 @@
 -- Mapped facts are of classes and links that are marked.
-use Rattle.std.proofs.Common.{◌≡◌, refl, sym, ◌∙◌, ap, subst, ℕ, Bool, true, false, List}
+use Rattle.std.proofs.Common.{◌≡◌, refl, sym, ◌∙◌, subst, Bool, true, false, ◌&&◌, List, Some}
 use Rattle.vocabulary.specs.declared.ids.LinkId.{LinkId}
 use Rattle.vocabulary.specs.declared.ids.Dir.{Dir}
 use Rattle.vocabulary.specs.declared.ids.Dir.TheVariants.{Fwd, Back}
@@ -50,7 +50,7 @@ both_true a b e h = rw (e, h) refl
 source_marked : (given : Given) (s : Source) (f g : Fact) → FactMarked given f → FactMarked given g → IsMetBy s f g → may_meet given s ≡ true
 source_marked given (One x) f g m n met = basic_marked given x f met.1.0 met.1.1 m
 source_marked given (Two x y) f g m n met = both_true (may_match given x) (may_match given y) (basic_marked given x f met.0 met.1 m) (basic_marked given y g met.0 met.2 n)
-source_marked given (TwoFillers p d) f g m n (s, t, u, e, rest) = link_marked given p d s t f e m
+source_marked given (TwoFillers p d) f g m n (s, t, u, e, h, ks, ku, apart) = link_marked given p d s t f e m
 source_marked given (TwoLinks q d p) f g m n (s, t, e, h) =
     both_true (is_marked given.links.items q.0) (is_marked given.links.items p.0) (link_marked given q Fwd s t f e m) (link_marked given p d s t g h n)
 
@@ -62,7 +62,7 @@ module _ (mappings : List Mapping) (tables : List Loaded) (given : Given) (marke
 
   -- a source of which they are not is not met
   pub not_given : (s : Source) → may_meet given s ≡ false → Meets (mapped_facts mappings tables) s → ⊥
-  not_given s no met =
+  not_given s unmet met =
       let yes = source_marked given s met.0 met.1 (mapped_marked met.0 met.2) (mapped_marked met.1 met.3) met.4 in
-      let wrong : true ≡ false = sym yes ∙ no in
+      let wrong : true ≡ false = sym yes ∙ unmet in
       cc

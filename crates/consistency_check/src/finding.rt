@@ -72,7 +72,9 @@ pub fn conflicts(
     let mut found = List::new(alloc);
     for at in 0..tbox.constraints().len() {
         let number = at as u32 + 1;
-        if let Some(derivation) = contradiction(alloc, number, tbox, &downs, &given, mappings, tables)? {
+        if let Some(derivation) = contradiction(
+            alloc, number, tbox, &downs, &given, mappings, tables,
+        )? {
             found.push(derivation)?;
         }
     }

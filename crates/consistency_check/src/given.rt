@@ -1,5 +1,5 @@
 //! Which classes and links the mappings give facts of.
-ghost use Rattle.std.specs.Prelude.{◌≡◌, true, IfOk};
+ghost use Rattle.std.specs.Prelude.{◌≡◌, ℕ, true, IfOk};
 ghost use Rattle.vocabulary.specs.Lists.{In};
 ghost use Rattle.mapping_facts.specs.declared.mapping.Target.{Target as TargetOf};
 ghost use Rattle.consistency_check.specs.Given.{AreMarked, IsMarked, is_marked, may_match, may_meet};

@@ -12,4 +12,5 @@ pub use finding::conflicts;
 
 // More classes and links than a model has.
 const CLASSES: u32 = 400;
+
 const LINKS: u32 = 600;

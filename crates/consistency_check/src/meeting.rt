@@ -115,12 +115,7 @@ fn met_in(
     let rows = apart_query(alloc, &unfolded.rows)?;
     match some_tuple(alloc, &rows, tables)? {
         Some(tuple) => {
-            let met = met_at(
-                alloc,
-                mappings,
-                tuple.items(),
-                unfolded.origins.items(),
-            )?;
+            let met = met_at(alloc, mappings, tuple.items(), unfolded.origins.items())?;
             Ok(Some(met))
         }
         None => Ok(None),
