@@ -47,9 +47,8 @@ returns t c =
     let len = ap length (sym c.as_slice.ensures.value) ∙ c.as_slice.ensures.len ∙ sym c.len-depth.ensures in
     let within : c.len-depth.result < length c.args.query.now.query.tables = below _ _ _ _ len c.requires.within c.len.ensures c.if-depth-len.false in
     let front : length c.args.front.now.items < length c.args.query.now.query.tables = omega (arith, len, within) in
-    let covers = subst (λ xs. Covers c.args.tables.now c.args.query.now.query xs c.next_rows-rows.result.now) c.as_slice-2.ensures.value c.next_rows-rows.ensures in
-    (
+    let covers = subst (λ xs. Covers c.args.tables.now c.args.query.now.query xs c.next_rows-rows.result.now) c.as_slice-2.ensures.value c.next_rows-rows.ensures in (
       c.loop-row.invariant.front,
       found_none c.args.tables.now c.args.query.now c.args.front.now.items c.next_rows-rows.result.now covers front
-      (sym (ap (flat_map (λ i. asked_behind c.args.tables.now c.args.query.now (c.args.front.now.items ++ (i ∷ [])))) (take_all c.loop-row.row-index c.next_rows-rows.result.now c.loop-row-test.false)) ∙ c.loop-row.invariant.none),
+          (sym (ap (flat_map (λ i. asked_behind c.args.tables.now c.args.query.now (c.args.front.now.items ++ (i ∷ [])))) (take_all c.loop-row.row-index c.next_rows-rows.result.now c.loop-row-test.false)) ∙ c.loop-row.invariant.none),
     )
