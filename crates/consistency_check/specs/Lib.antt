@@ -1,0 +1,5 @@
+pub mod Asking
+pub mod Given
+pub mod Meeting
+pub mod Planned
+pub mod Contradictions
