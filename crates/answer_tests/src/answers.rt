@@ -95,8 +95,39 @@ fn subclasses_and_ends_of_links(rt: HostRuntime) -> Result<(), Fail> {
     assert!(rt; are_linked(alloc, mappings, tables, in_class(0), None, all)?);
     let ends = "http://e/1;http://e/2;";
     assert!(rt; are_linked(alloc, mappings, tables, in_class(2), None, ends)?);
-    let both = Some(linked());
+    let both = Some(linked(0));
     assert!(rt; are_linked(alloc, mappings, tables, in_class(1), both, "http://e/2;")?);
+    Ok(())
+}
+
+fn are_first_ends(
+    alloc: Global,
+    mappings: &[Mapping],
+    tables: &[Table],
+    dir: Dir,
+    want: &str,
+) -> Result<bool, AllocError>
+    requires { AreFit mappings.now }
+{
+    let mut axioms = List::new(alloc);
+    axioms.push(Axiom::SubLink(LinkId(0), dir, LinkId(1)))?;
+    let tbox = Tbox::new(axioms, List::new(alloc));
+    let query = query(alloc, linked(1), None)?;
+    are_answers(alloc, &tbox, mappings, tables, &query, want)
+}
+
+// What p leads from, a link above p leads from, or leads to where the ends are exchanged. No mapping names it.
+#[test]
+fn links_above_others(rt: HostRuntime) -> Result<(), Fail> {
+    let alloc = rt.alloc();
+    let owned = mapped::linked(alloc)?;
+    let mappings = owned.as_slice();
+    let table = table(alloc, b"a,b\n2,3\n1,2")?;
+    let tables = table.as_slice();
+    let kept = "http://e/2;http://e/3;";
+    assert!(rt; are_first_ends(alloc, mappings, tables, Dir::Fwd, kept)?);
+    let turned = "http://e/1;http://e/2;";
+    assert!(rt; are_first_ends(alloc, mappings, tables, Dir::Back, turned)?);
     Ok(())
 }
 

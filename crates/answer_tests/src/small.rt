@@ -67,12 +67,12 @@ pub fn in_class(class: u32) -> Atom
     Atom::InClass(ClassId(class), Arg::Var(VarId(0)))
 }
 
-/// That the variable is linked to another.
-pub fn linked() -> Atom
+/// That the variable is linked to another by the link of this number.
+pub fn linked(link: u32) -> Atom
     ensures known { KnownAtom result }
     ensures stands { 1 ≤ atom_occurs (record { 0 = 0 }) result }
 {
-    Atom::Linked(LinkId(0), Arg::Var(VarId(0)), Arg::Var(VarId(1)))
+    Atom::Linked(LinkId(link), Arg::Var(VarId(0)), Arg::Var(VarId(1)))
 }
 
 fn atoms_of(alloc: Global, first: Atom, second: Option<Atom>) -> Result<List<Atom>, AllocError>
