@@ -1,5 +1,7 @@
 mod Ends
 mod Extracting
+mod Finding
+mod Taking
 mod Walks
 mod PrintedSamples
 mod WalksBack

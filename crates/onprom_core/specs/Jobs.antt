@@ -1,6 +1,6 @@
 -- How the job of a run ends, once all is read.
-use Rattle.std.specs.Prelude.{◌≡◌, ◌≢◌, ◌⊎◌, ℕ, option_map, unwrap_or, ◌==◌, not, List, [], ◌∷◌, ◌++◌, length, codes, decimal, Option, Some, None, Result, Ok, Err}
-use Rattle.std.specs.List.{flat_map, filter_map, take_while}
+use Rattle.std.specs.Prelude.{◌≡◌, ◌≢◌, ◌⊎◌, ℕ, unwrap_or, List, [], ◌∷◌, ◌++◌, length, codes, decimal, Option, Some, None, Result, Ok, Err}
+use Rattle.std.specs.List.{flat_map}
 use Rattle.vocabulary.specs.Lists.{In, IsListOf}
 use Rattle.line_lexer.specs.Faults.{name_of}
 use Rattle.line_lexer.specs.declared.fault.Counted.TheVariants.{Rewriting as RewritingCount}
@@ -8,19 +8,23 @@ use Rattle.source_tables.specs.Tables.{Loaded}
 use Rattle.queries.specs.declared.query.Query.{Query}
 use Rattle.queries.specs.Order.{query_cmp}
 use Rattle.perfect_rewriting.specs.Reach.{Reach}
+use Rattle.perfect_rewriting.specs.Rewriting.{GiveCertain}
+use Rattle.query_subsumption.specs.Kept.{NoneMaps}
 use Rattle.query_subsumption.specs.Subsumption.{AreKept}
 use Rattle.annotation_language.specs.Named.{variables_named}
 use Rattle.conflict_checker.specs.declared.derivation.Derivation.{Derivation}
 use Rattle.conflict_checker.specs.Derivations.{IsAccepted}
-use Rattle.big_project.specs.Files.{file_of}
+use Rattle.answer_text.specs.Answers.{AreAnswers}
+use Rattle.answer_text.specs.Queries.{queries_report, queries_text}
+use Rattle.big_project.specs.Files.{file_of, made_files}
+use Rattle.big_project.specs.Summary.{first_line}
 use Rattle.project_language.specs.declared.project.Project.{Project}
 use Rattle.onprom_core.specs.declared.status.Status.{Status}
 use Rattle.onprom_core.specs.declared.status.Status.TheVariants as status
 use Rattle.onprom_core.specs.declared.halt.Stopped.{Stopped}
 use Rattle.onprom_core.specs.Lines.{limit_line}
 use Rattle.onprom_core.specs.Meaning.{AreContradictions, IsConsistentProject, IsExtracted, IsTooWideToAnswer, IsTooWideToRewrite, IsWide, certain, spelled, tbox}
-use Rattle.onprom_core.specs.Printed.{AreAnswers, queries_text, queries_report}
-use Rattle.onprom_core.specs.Walk.{Files, Job, Extracting, Checking, Verifying, Answering, Rewriting, Making, extract_step}
+use Rattle.onprom_core.specs.Walk.{Job, Extracting, Checking, Verifying, Answering, Rewriting, Making, extract_step}
 
 -- a status with what is written for it
 pub record Ending : Type 0 where
@@ -71,25 +75,12 @@ pub data EndsAnswering (project : Project) (tables : List Loaded) (q : Query) (e
 abbrev pub printed : Project → List ℕ → List Query → List ℕ
 printed project name qs = queries_text (unwrap_or (variables_named project.noted.variables name) []) project.model.classes project.model.links qs
 
--- `rewrite`: of the reach in its order, the queries that no other stands for
+-- `rewrite`: of the reach in its order, the queries that no other stands for; over known facts they give the certain answers, and none of them maps into another
 pub data EndsRewriting (project : Project) (name : List ℕ) (q : Query) (e : Ending) : Type 0 where
   rewritten : (IsTooWideToRewrite project q → ⊥) → (reached kept : List Query) → IsListOf query_cmp (Reach (tbox project).axioms q) reached → AreKept reached kept
+      → GiveCertain (tbox project).axioms q kept → NoneMaps kept
       → e ≡ record { status = status.Done; out = printed project name kept; report = queries_report kept } → EndsRewriting project name q e
   too_wide : IsTooWideToRewrite project q → e ≡ wide_end → EndsRewriting project name q e
-
--- the three files of the made project of n documents
-abbrev pub with_file : ℕ → List ℕ → Files → Files
-with_file n name files = filter_map (λ text. text) (made n name ∷ []) ++ files
-  where
-    made : ℕ → List ℕ → Option (List ℕ × List ℕ)
-    made n name = option_map (λ text. (name, text)) (file_of n name)
-
-abbrev pub made_files : ℕ → Files
-made_files n = with_file n (codes "project.txt") (with_file n (codes "doc.csv") (with_file n (codes "step.csv") []))
-
--- the first line of a text, with its end
-abbrev pub first_line : List ℕ → List ℕ
-first_line text = take_while (λ b. not (b == 10)) text ++ codes "\n"
 
 -- of an extraction that is done, the first line of its report
 abbrev pub IsSummary : Ending → Ending → Type 0

@@ -12,3 +12,4 @@ pub mod Causes
 pub mod Delivery
 pub mod Shown
 pub mod Outputs
+pub mod Rewritten

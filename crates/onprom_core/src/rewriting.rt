@@ -1,0 +1,122 @@
+//! The job of `rewrite`.
+ghost use Rattle.std.specs.Prelude.{◌≡◌, [], IfOk, unwrap_or};
+ghost use Rattle.answer_text.specs.Queries.{queries_report};
+ghost use Rattle.annotation_language.specs.Askable.{IsAskable};
+ghost use Rattle.annotation_language.specs.Named.{variables_named};
+ghost use Rattle.onprom_core.specs.Jobs.{EndsRewriting, printed};
+ghost use Rattle.onprom_core.specs.Outputs.{EndsWell, ended};
+ghost use Rattle.onprom_core.specs.Rewritten.{PrintsKept, done_with};
+
+use crate::Status;
+use crate::extraction::Output;
+use crate::lines::line_of;
+use crate::width::too_wide;
+use answer_text::{QueryNames, queries_report, queries_text};
+use perfect_rewriting::{RewriteFault, rewrite};
+use project_language::Project;
+use queries::Query;
+use query_subsumption::drop_subsumed;
+use std::alloc::{AllocError, Global};
+use uml_model::{Model, axioms_of};
+use vocabulary::{ClassId, LinkId, List, Name};
+
+/// The rewriting of the query of this name, without the queries for which others stand.
+pub(crate) fn rewriting(
+    alloc: Global,
+    project: &Project,
+    name: &str,
+    query: &Query,
+) -> Result<Output, AllocError>
+    requires { IsAskable query.now }
+    ensures ends { IfOk result (λ o. EndsRewriting project.now name.now query.now (ended o)) }
+    ensures well { IfOk result EndsWell }
+{
+    let tbox = axioms_of(alloc, &project.model)?;
+    match rewrite(alloc, &tbox, query) {
+        Ok(members) => rewritten(alloc, project, name, members),
+        Err(RewriteFault::TooWide) => too_wide(alloc),
+        Err(RewriteFault::NoMemory) => Err(AllocError),
+    }
+}
+
+fn rewritten(
+    alloc: Global,
+    project: &Project,
+    name: &str,
+    members: List<Query>,
+) -> Result<Output, AllocError>
+    ensures prints { IfOk result (λ o. PrintsKept project.now name.now members (ended o)) }
+    ensures well { IfOk result EndsWell }
+{
+    let kept = drop_subsumed(alloc, members)?;
+    listed(alloc, project, name, kept.items())
+}
+
+fn listed(
+    alloc: Global,
+    project: &Project,
+    name: &str,
+    kept: &[Query],
+) -> Result<Output, AllocError>
+    ensures end { IfOk result (λ o. ended o ≡ done_with (printed project.now name.now kept.now) (queries_report kept.now)) }
+    ensures well { IfOk result EndsWell }
+{
+    let text = printed(alloc, project, name, kept)?;
+    let said = queries_report(alloc, kept)?;
+    let report = line_of(alloc, said.items())?;
+    Ok(Output {
+        status: Status::Done,
+        text: text.into_vec(),
+        report,
+    })
+}
+
+fn printed(
+    alloc: Global,
+    project: &Project,
+    name: &str,
+    kept: &[Query],
+) -> Result<List<u8>, AllocError>
+    ensures { IfOk result (λ text. text ≡ printed project.now name.now kept.now) }
+{
+    let classes = class_names(alloc, &project.model)?;
+    let links = link_names(alloc, &project.model)?;
+    let names = QueryNames {
+        variables: variables(project, name),
+        classes: classes.items(),
+        links: links.items(),
+    };
+    queries_text(alloc, &names, kept)
+}
+
+// The variables of the query of this name, none where it has no names for them.
+fn variables<'a>(project: &'a Project, name: &str) -> &'a [Name]
+    ensures { result.now ≡ unwrap_or (variables_named project.now.noted.variables name.now) [] }
+{
+    match project.noted.variables(name) {
+        Some(variables) => variables,
+        None => &[],
+    }
+}
+
+#[tactic(auto, using(crate::proofs::Taking::take_next))]
+fn class_names(alloc: Global, model: &Model) -> Result<List<Name>, AllocError>
+    ensures { IfOk result (λ names. names ≡ model.now.classes) }
+{
+    let mut names = List::new(alloc);
+    for class in 0..model.classes() {
+        names.push(Name::new(alloc, model.class_name(ClassId(class)))?)?;
+    }
+    Ok(names)
+}
+
+#[tactic(auto, using(crate::proofs::Taking::take_next))]
+fn link_names(alloc: Global, model: &Model) -> Result<List<Name>, AllocError>
+    ensures { IfOk result (λ names. names ≡ model.now.links) }
+{
+    let mut names = List::new(alloc);
+    for link in 0..model.links() {
+        names.push(Name::new(alloc, model.link_name(LinkId(link)))?)?;
+    }
+    Ok(names)
+}
