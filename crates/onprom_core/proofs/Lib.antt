@@ -3,7 +3,6 @@ mod Extracting
 mod Finding
 mod Taking
 mod Walks
-mod PrintedSamples
 mod WalksBack
 mod Headlines
 mod WalkSamples

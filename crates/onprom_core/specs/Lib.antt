@@ -4,7 +4,6 @@ pub mod Lines
 pub mod Meaning
 pub mod Steps
 pub mod Walk
-pub mod Printed
 pub mod Jobs
 pub mod Headline
 pub mod Extracted
