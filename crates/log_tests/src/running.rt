@@ -184,9 +184,13 @@ fn refuses_with_the_first_fault_of_the_project(rt: HostRuntime) -> Result<(), Fa
     Ok(())
 }
 
-fn refuses_table(alloc: Global, table: &str, line: &str) -> Result<bool, AllocError> {
-    let project = format!(in alloc; "{PROJECT}key doc (id)\n")?;
-    refuses(alloc, &[("p", project.as_str()), ("doc.csv", table)], line)
+fn refuses_table<'a>(
+    alloc: Global,
+    project: &'a str,
+    table: &'a str,
+    line: &str,
+) -> Result<bool, AllocError> {
+    refuses(alloc, &[("p", project), ("doc.csv", table)], line)
 }
 
 #[test]
@@ -204,8 +208,12 @@ fn refuses_with_the_first_fault_of_a_table(rt: HostRuntime) -> Result<(), Fail> 
             "refused: doc.csv rows 1 3: DoubleKey\n",
         ),
     ];
+    let project = format!(in rt.alloc(); "{PROJECT}key doc (id)\n")?;
     for (table, line) in cases {
-        assert!(rt; refuses_table(rt.alloc(), table, line)?, "{line}");
+        assert!(rt;
+            refuses_table(rt.alloc(), project.as_str(), table, line)?,
+            "{line}"
+        );
     }
     Ok(())
 }
