@@ -7,7 +7,7 @@ use Rattle.std.proofs.lemmas.List.Elements.{All-head, All-tail}
 use Rattle.std.proofs.lemmas.List.Sums.{take_while-cons}
 use Rattle.std.specs.Char.{is_ascii_hexdigit}
 use Rattle.iri_templates.specs.declared.fault.TemplateFault.{TemplateFault}
-use Rattle.iri_templates.specs.declared.fault.TemplateFault.TheVariants.{BadChar, NoMemory, NotBounded, Unclosed}
+use Rattle.iri_templates.specs.declared.fault.TemplateFault.TheVariants.{BadChar, NoMemory, Unclosed}
 use Rattle.iri_templates.specs.declared.segment.Segment.{Segment}
 use Rattle.iri_templates.specs.declared.segment.Segment.TheVariants.{Literal, Hole}
 use Rattle.iri_templates.specs.declared.segment.Part.{Part}
