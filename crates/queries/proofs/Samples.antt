@@ -16,8 +16,8 @@ use Rattle.queries.specs.declared.query.Atom.TheVariants.{InClass, Linked}
 use Rattle.queries.specs.declared.query.Query.{Query}
 use Rattle.queries.specs.declared.check.QueryFault.TheVariants.{MixedSort, HeadUnbound}
 use Rattle.queries.specs.Checking.{args_of, different, query_fault}
-use Rattle.queries.specs.Unifying.{unify_at}
-use Rattle.vocabulary.specs.declared.ids.Side.TheVariants.{Value as ValueSide}
+use Rattle.queries.specs.Unifying.{unify_at, unified}
+use Rattle.vocabulary.specs.declared.ids.Side.TheVariants.{Object, Value as ValueSide}
 use Rattle.queries.specs.declared.unify.Change.{Change}
 use Rattle.queries.specs.Changes.{Meets, same_fixed, blank_right, left_lower, link_meet, substituted, UnifyStep, unify}
 use Rattle.queries.specs.Matches.{Terms, IsMatch}
@@ -162,3 +162,30 @@ blank_in_head = refl
 -- blanks are no variables, and a variable is one wherever it stands
 three_variables : different (var 2 ∷ args_of (Linked (link 0) (var 1) Blank ∷ Linked (link 0) (var 1) (var 0) ∷ InClass (class 0) (var 2) ∷ [])) ≡ 3
 three_variables = refl
+
+-- one variable at both ends: of an attribute it is an object and a value, of an association two objects
+both_ends : (query_fault (ValueSide Time ∷ Object ∷ []) (query (var 0 ∷ []) (Linked (link 0) (var 0) (var 0) ∷ [])) ≡ Some MixedSort)
+    × (query_fault (ValueSide Time ∷ Object ∷ []) (query (var 0 ∷ var 0 ∷ []) (Linked (link 1) (var 0) (var 0) ∷ [])) ≡ None)
+both_ends = (refl, refl)
+
+-- a query needs no atoms and no head, and a constant may stand in a head without atoms
+nothing_asked : (query_fault [] (query [] []) ≡ None) × (query_fault [] (query (iri (97 ∷ []) ∷ []) []) ≡ None) × (normal_form (query [] []) ≡ query [] [])
+nothing_asked = (refl, refl, refl)
+
+-- a variable of the head becomes the constant, and so in the other atoms
+constant_in_head : unified (query (var 0 ∷ var 1 ∷ []) (Linked (link 0) (var 0) (var 1) ∷ Linked (link 0) (iri (97 ∷ [])) Blank ∷ InClass (class 0) (var 0) ∷ [])) 0 1
+    ≡ Some (query (iri (97 ∷ []) ∷ var 1 ∷ []) (InClass (class 0) (iri (97 ∷ [])) ∷ Linked (link 0) (iri (97 ∷ [])) (var 1) ∷ []))
+constant_in_head = refl
+
+-- p(x, y) and p(y, x) are p(x, x), where x stands twice and stays
+turned : unified (query [] (Linked (link 0) (var 0) (var 1) ∷ Linked (link 0) (var 1) (var 0) ∷ [])) 1 0 ≡ Some (query [] (Linked (link 0) (var 0) (var 0) ∷ []))
+turned = refl
+
+-- values of two kinds do not unify, nor a value with an object, though they have one text
+two_sorts : (unify_at (query [] (Linked (link 0) Blank (Fixed (Value Text (49 ∷ []))) ∷ Linked (link 0) Blank (Fixed (Value Int (49 ∷ []))) ∷ [])) 0 1 ≡ None)
+    × (unify_at (query [] (Linked (link 0) Blank (Fixed (Value Text (49 ∷ []))) ∷ Linked (link 0) Blank (iri (49 ∷ [])) ∷ [])) 0 1 ≡ None)
+two_sorts = (refl, refl)
+
+-- a repeated atom goes, so its variables are lone, and then it is a repeated atom itself
+three_rounds : normal_form (query [] (Linked (link 0) (var 0) (var 1) ∷ Linked (link 0) (var 0) (var 1) ∷ Linked (link 0) (var 2) (var 3) ∷ [])) ≡ query [] (Linked (link 0) Blank Blank ∷ [])
+three_rounds = refl
