@@ -2,3 +2,4 @@ pub mod Cells
 pub mod Tables
 pub mod Reading
 pub mod Loading
+pub mod Laws

@@ -5,6 +5,7 @@ mod decl;
 mod fault;
 mod header;
 mod key;
+pub mod laws;
 mod loading;
 mod records;
 mod row;
