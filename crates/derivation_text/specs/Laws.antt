@@ -1,5 +1,5 @@
 -- The laws of texts and of accepted derivations, as the functions of `laws` state them.
-use Rattle.std.specs.Prelude.{◌≡◌, ◌↔◌, ◌<◌, ◌≤◌, ◌-◌, ◌^◌, ℕ, List, length, Ok}
+use Rattle.std.specs.Prelude.{◌≡◌, ◌≢◌, ◌↔◌, ◌<◌, ◌≤◌, ◌-◌, ◌^◌, ℕ, List, length, Ok, Err}
 use Rattle.vocabulary.specs.Lists.{In}
 use Rattle.dllite_axioms.specs.declared.axioms.Tbox.{Tbox}
 use Rattle.source_tables.specs.Tables.{Loaded}
@@ -7,6 +7,7 @@ use Rattle.mapping_facts.specs.declared.mapping.Mapping.{Mapping}
 use Rattle.mapping_facts.specs.Fits.{AreFit}
 use Rattle.conflict_checker.specs.declared.derivation.Derivation.{Derivation}
 use Rattle.conflict_checker.specs.Derivations.{IsAccepted}
+use Rattle.derivation_text.specs.declared.fault.DerivationFault.TheVariants.{NoMemory}
 use Rattle.derivation_text.specs.Reading.{derivations_of, steps_limit}
 use Rattle.derivation_text.specs.Spelling.{AreWellFormed, IsWellFormed, Spells}
 
@@ -26,3 +27,7 @@ pub record AreNumbered (tbox : Tbox) (mappings : List Mapping) (tables : List Lo
 abbrev pub AcceptedIsWellFormed : Type 0
 AcceptedIsWellFormed = (tbox : Tbox) (mappings : List Mapping) (tables : List Loaded) (d : Derivation) → AreNumbered tbox mappings tables → IsAccepted tbox mappings tables d → length d.steps ≤ steps_limit →
     IsWellFormed (length mappings) d
+
+-- no text is refused for want of memory
+abbrev pub MemoryIsNoFault : Type 0
+MemoryIsNoFault = (names : List (List ℕ)) (text : List ℕ) → derivations_of names text ≢ Err NoMemory
