@@ -17,7 +17,7 @@ use Rattle.negative_closure.specs.Plans.{run_of}
 use Rattle.negative_closure.specs.Rules.{chain_rules}
 use Rattle.negative_closure.specs.Trails.{Winds, arrived, onward}
 use Rattle.negative_closure.specs.declared.hops.Hops.TheVariants.{Axioms, Links}
-use Rattle.negative_closure.proofs.Running.{Joined, chained, joined}
+use Rattle.negative_closure.proofs.Running.{chained, joined}
 use Rattle.negative_closure.proofs.Spreading.{append_nothing}
 use Rattle.negative_closure.proofs.Winding.{axioms_not_ends}
 

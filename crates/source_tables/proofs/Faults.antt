@@ -1,5 +1,5 @@
 -- Want of memory is no fault of bytes.
-use Rattle.std.proofs.Common.{◌≡◌, ◌≢◌, ℕ, ℤ, ◌+◌, Bool, true, false, if◌then◌else◌, List, [], ◌∷◌, ◌++◌, length, Option, Some, None, Result, Ok, Err}
+use Rattle.std.proofs.Common.{◌≡◌, ◌≢◌, ℕ, ℤ, ◌+◌, Bool, true, false, if◌then◌else◌, List, [], ◌∷◌, ◌++◌, length, Option, Some, None, Ok, Err}
 use Rattle.vocabulary.specs.declared.ids.ValueKind.{ValueKind}
 use Rattle.vocabulary.specs.declared.ids.ValueKind.TheVariants.{Text, Int, Bool as BoolKind, Time}
 use Rattle.vocabulary.specs.declared.ids.ColId.{ColId}
@@ -8,7 +8,7 @@ use Rattle.source_tables.specs.declared.decl.TableDecl.{TableDecl}
 use Rattle.source_tables.specs.declared.fault.TableFault.{TableFault}
 use Rattle.source_tables.specs.declared.fault.TableFault.TheVariants.{NoMemory, NotUtf8, NullKey, TooManyRows, Width}
 use Rattle.source_tables.specs.Cells.{Cell, Row, canonical}
-use Rattle.source_tables.specs.Tables.{Loaded, OrFault, ◌>>=◌, body_of, cell_fault, cell_or, check_key, check_keys, checked_cell, checked_cells, checked_header, checked_row, checked_rows, double_or, field_of, header_of, missing_or_header, records_of, table_of}
+use Rattle.source_tables.specs.Tables.{OrFault, ◌>>=◌, body_of, cell_fault, cell_or, check_key, check_keys, checked_cell, checked_cells, checked_header, checked_row, checked_rows, double_or, field_of, header_of, missing_or_header, records_of, table_of}
 
 -- no want of memory is told
 abbrev Tells : {A : Type 0} → OrFault A → Type 0
