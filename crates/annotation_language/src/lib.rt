@@ -1,4 +1,9 @@
 //! Annotations of a class model: what its cases and events are, and their attributes.
+//!
+//! [`read_annotation_line`] reads the lines `case`, `casename`, `event`, `cases`, `set` and `query` into a [`Noted`],
+//! one at a time: a line that breaks a rule is its first fault. [`Noted::notes`] lends what was read as [`Annotations`],
+//! and [`Noted::variables`] the names of a query's variables. [`complete`] tells what a log would lack first;
+//! [`Annotations::query_named`] finds the query that can be asked by a name.
 #![tactic(auto)]
 
 mod building;

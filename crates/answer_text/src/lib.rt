@@ -1,4 +1,7 @@
 //! Answers and queries as they are printed, and the reports that count them.
+//!
+//! [`answers_text`] prints tuples of terms, a line for each; [`queries_text`] prints queries by the names of their
+//! variables, classes and links. Each has a line that counts what was printed, for the report.
 #![tactic(auto)]
 
 mod answers;

@@ -1,4 +1,8 @@
 //! The lines of a text, the tokens of a line, and the pieces of which the grammars of lines are made.
+//!
+//! [`Lines`] cuts a text into lines, [`Tokens`] a line into tokens, and [`grammar`] has the pieces that the readers of
+//! lines share. [`LineFault`] is every fault that a line can have, and [`Counted`] the table of limits: each number of
+//! the language stands there once.
 #![tactic(auto)]
 
 mod collect;

@@ -1,4 +1,7 @@
 //! The one log of annotations and certain answers, and its report.
+//!
+//! [`ask`] finds the answers of every query of the annotations, [`assemble`] makes the log of them, and [`report`] says
+//! what was counted, left out and not written. [`laws::one_log`] says that annotations and answers have one log only.
 #![tactic(auto)]
 
 mod asked;

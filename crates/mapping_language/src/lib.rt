@@ -1,4 +1,8 @@
 //! The source lines and the mapping lines of a project: what they are, and the tables and mappings that they give.
+//!
+//! [`read_source_line`] reads the lines `table`, `column` and `key`, and [`read_mapping_line`] the lines `map`, into
+//! [`Sources`], one at a time: a line that breaks a rule is its first fault. [`Sources::tables`] and
+//! [`Sources::mappings`] lend what was read.
 #![tactic(auto)]
 
 mod holes;

@@ -1,4 +1,8 @@
 //! Unfolding: queries over mapped facts as queries over tables.
+//!
+//! [`unfold`] is the one call: it gives one row query for each choice of a target for each atom of a query that can give
+//! answers together, with the [`Origin`] of each atom. The answers of the row queries are those of the query over the
+//! mapped facts.
 #![tactic(auto)]
 
 mod draft;

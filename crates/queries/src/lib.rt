@@ -1,4 +1,7 @@
 //! Conjunctive queries: their order, normal form, and the steps that replace variables.
+//!
+//! A [`Query`] has a head and [`Atom`]s over [`Arg`]uments. [`Query::check`] tells whether it may be asked,
+//! [`Query::normal`] gives its normal form, [`Query::substitute`] and [`Query::unify_atoms`] the steps of rewriting.
 #![tactic(auto)]
 
 mod check;

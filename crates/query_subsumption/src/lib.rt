@@ -1,4 +1,7 @@
 //! Which queries of a list stand for others: containment of conjunctive queries by a homomorphism.
+//!
+//! [`maps_into`] tells whether one query stands for another, and [`drop_subsumed`] leaves out of a list what others
+//! stand for.
 #![tactic(auto)]
 
 mod bindings;

@@ -1,4 +1,7 @@
 //! Tables: their declarations, and what the bytes of a file are under one.
+//!
+//! A [`TableDecl`] says how the bytes of a file are cut into typed columns; [`load`] gives the [`Table`] or the first
+//! [`TableFault`] with its row and column. [`read_value`] reads one cell.
 #![tactic(auto)]
 
 mod decl;

@@ -1,4 +1,6 @@
 //! Event logs, and their XES text (IEEE 1849-2016).
+//!
+//! A [`Log`] has traces, events and attributes as the standard names them; [`log_text`] writes the document.
 #![tactic(auto)]
 
 mod log;
