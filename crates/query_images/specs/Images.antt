@@ -1,0 +1,29 @@
+-- The images of a query over tables.
+use Rattle.std.specs.Prelude.{ℕ, List}
+use Rattle.std.specs.List.{flat_map}
+use Rattle.std.specs.Option.{option_to_list}
+use Rattle.vocabulary.specs.declared.term.Term.{Term}
+use Rattle.vocabulary.specs.declared.term.Fact.{Fact}
+use Rattle.source_tables.specs.Tables.{Loaded}
+use Rattle.queries.specs.declared.query.Query.{Query}
+use Rattle.queries.specs.Matches.{IsMatch, Terms}
+use Rattle.mapping_facts.specs.declared.query.RowQuery.{RowQuery}
+use Rattle.mapping_facts.specs.RowQueries.{row_tuples, terms_at}
+use Rattle.mapping_facts.specs.Tuples.{cell_of}
+use Rattle.mapping_unfolding.specs.declared.unfolded.Unfolded.{Unfolded}
+
+-- the tuple is the image of the head under a match of the query in the facts
+unfoldable pub IsImage : List Fact → Query → List Term → Type 0
+IsImage facts q ts = (σ : Terms) × IsMatch facts q ts σ
+
+-- the terms of a row query's head at a tuple of row numbers, none where one is not defined
+abbrev pub head_at : List Loaded → RowQuery → List ℕ → List (List Term)
+head_at tables q tuple = option_to_list (terms_at (cell_of tables q.query.tables tuple) q.head)
+
+-- the same for each of its tuples
+unfoldable pub heads_of : List Loaded → RowQuery → List (List Term)
+heads_of tables q = flat_map (head_at tables q) (row_tuples tables q)
+
+-- the same for each row query of a list
+abbrev pub all_heads : List Loaded → List Unfolded → List (List Term)
+all_heads tables list = flat_map (λ u. heads_of tables u.rows) list
