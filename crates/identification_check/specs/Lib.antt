@@ -1,0 +1,4 @@
+pub mod Asking
+pub mod Chained
+pub mod Members
+pub mod Violations
