@@ -1,4 +1,5 @@
 pub mod Askable
+pub mod Within
 pub mod Complete
 pub mod Written
 pub mod Shown

@@ -1,6 +1,7 @@
 //! Reading an annotation line.
 ghost use Rattle.annotation_language.specs.Askable.{AreAskable};
-ghost use Rattle.std.specs.Prelude.{◌≡◌, ◌≢◌, OnOk, IfErr, Ok, Err};
+ghost use Rattle.annotation_language.specs.Within.{AreAskedWithin};
+ghost use Rattle.std.specs.Prelude.{◌≡◌, ◌≢◌, length, OnOk, IfErr, Ok, Err};
 ghost use Rattle.uml_model.specs.Rules.{class_named, link_named};
 ghost use Rattle.annotation_language.specs.Written.{Case, CaseName, Event, Cases, Key, Query, Answers, Is};
 ghost use Rattle.annotation_language.specs.Lines.{read_annotation_line};
@@ -32,6 +33,7 @@ pub fn read_annotation_line(
     ensures fault { IfErr result (λ e. e ≢ LineFault.NoMemory → read_annotation_line (class_named model.now) (link_named model.now) line.now.number notes.old line.now.text.now ≡ Err e) }
     ensures unchanged { IfErr result (λ e. e ≢ LineFault.NoMemory → notes.new ≡ notes.old) }
     ensures askable { AreAskable notes.old.notes → OnOk result (AreAskable notes.new.notes) }
+    ensures within { AreAskedWithin (length model.now.classes) (length model.now.links) notes.old.notes → OnOk result (AreAskedWithin (length model.now.classes) (length model.now.links) notes.new.notes) }
 {
     let tokens = tokens_of(alloc, line.text)?;
     if tokens.is_empty() {

@@ -16,6 +16,7 @@ use Rattle.mapping_language.specs.Written.{Cell, OfCell, OfText, Condition, Same
 use Rattle.vocabulary.specs.declared.ids.Side.TheVariants.{Object}
 use Rattle.mapping_language.specs.Mappings.{class_places, link_places, class_targets, link_targets, or_zero, place_of, place_at, cell_of_hole, condition_of, template_or, row_term_of, tables_of, targets_of, mapping_of}
 use Rattle.mapping_language.specs.Built.{IsWithinLimits}
+use Rattle.mapping_language.proofs.Targets.{as_many}
 
 all_none : {X : Type 0} (P : X → Type 0) → All P []
 all_none P k d lt = absurd (omega arith)
@@ -62,33 +63,14 @@ module _ (s : Sources) (m : MapLine) (some : 0 < length m.sources) where
         by None = all_none (TargetFits (length m.sources))
         by (Some (q, side)) = all_one (TargetFits (length m.sources)) _ (term_fits a Object, term_fits b side)
 
-    target_alone : (t : Target) → length (targets_of class_of link_of s m t) ≤ 1
-    target_alone (One p a) = by (class_of p)
-      where
-        by : (o : Option ClassId) → length (class_targets class_of link_of s m o (class_places o a)) ≤ 1
-        by None = omega arith
-        by (Some c) = omega arith
-    target_alone (Two p a b) = by (link_of p)
-      where
-        by : (o : Option (LinkId × Side)) → length (link_targets class_of link_of s m o (link_places o a b)) ≤ 1
-        by None = omega arith
-        by (Some (q, side)) = omega arith
-
     targets_fit : (ts : List Target) → All (TargetFits (length m.sources)) (flat_map (targets_of class_of link_of s m) ts)
     targets_fit [] = all_none (TargetFits (length m.sources))
     targets_fit (t ∷ ts) = All-append (TargetFits (length m.sources)) (targets_of class_of link_of s m t) (flat_map (targets_of class_of link_of s m) ts) (target_fits t) (targets_fit ts)
 
-    as_many : (ts : List Target) → length (flat_map (targets_of class_of link_of s m) ts) ≤ length ts
-    as_many [] = omega arith
-    as_many (t ∷ ts) =
-        let one : length (targets_of class_of link_of s m t) ≤ 1 = target_alone t in
-        let more : length (flat_map (targets_of class_of link_of s m) ts) ≤ length ts = as_many ts in
-        rw length-append (omega arith)
-
     pub mapping_fits : IsWithinLimits s m → MappingFits (mapping_of class_of link_of s m)
     mapping_fits within =
         let n : length (tables_of s m) ≡ length m.sources = length-map m.sources _ in
-        let few : length (flat_map (targets_of class_of link_of s m) m.targets) ≤ length m.targets = as_many m.targets in
+        let few : length (flat_map (targets_of class_of link_of s m) m.targets) ≤ length m.targets = as_many s m class_of link_of m.targets in
         record {
           some = rw n (omega (arith, some));
           tables = rw n within.tables;

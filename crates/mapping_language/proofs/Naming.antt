@@ -1,5 +1,5 @@
 -- Names of mappings are words, and no two lines give one.
-use Rattle.std.proofs.Common.{◌≡◌, refl, sym, ap, subst, ◌∙◌, ◌||◌, ◌&&◌, ◌==◌, not, ◌+◌, ◌-◌, ◌<◌, ℕ, zero, suc, Bool, true, false, List, [], ◌∷◌, ◌++◌, ◌⊎◌, inl, inr, Option, Some, None, Result, Ok, Err, OnOk, if◌then◌else◌, map, length, take, drop, codes, arith}
+use Rattle.std.proofs.Common.{◌≡◌, refl, sym, ap, subst, ◌∙◌, ◌||◌, ◌&&◌, ◌==◌, not, ◌+◌, ◌-◌, ℕ, zero, suc, Bool, true, false, List, [], ◌∷◌, ◌++◌, ◌⊎◌, inl, inr, Option, Some, None, Result, Ok, Err, OnOk, if◌then◌else◌, map, length, take, drop, codes}
 use Rattle.std.specs.List.{list_any, slice_get}
 use Rattle.std.specs.Str.{bytes_eq}
 use Rattle.std.proofs.lemmas.List.{map-append}
@@ -15,7 +15,7 @@ use Rattle.line_lexer.specs.declared.shape.Shape.TheVariants.{Word, Quoted, Numb
 use Rattle.line_lexer.specs.Shapes.{is_word, is_token, IsFront, IsLongestFront}
 use Rattle.line_lexer.specs.Tokens.{Seen, is_blank, token_front, token_at, begun, in_front, tokens_behind, tokens_of}
 use Rattle.line_lexer.specs.Grammar.{expect, name, is_word_shape, is_quoted_shape, is_reserved, ended}
-use Rattle.line_lexer.specs.Judging.{first_broken, first_passed, has_twice, read_by, unless}
+use Rattle.line_lexer.specs.Judging.{first_broken, read_by, unless}
 use Rattle.line_lexer.specs.Names.{AreNames}
 use Rattle.line_lexer.proofs.Longest.{longest}
 use Rattle.vocabulary.specs.declared.ids.ClassId.{ClassId}

@@ -6,3 +6,4 @@ pub mod Shown
 pub mod Changes
 pub mod Flaws
 pub mod Built
+pub mod Within

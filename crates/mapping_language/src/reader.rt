@@ -1,9 +1,10 @@
 //! Reading a source line or a mapping line.
-ghost use Rattle.std.specs.Prelude.{◌≡◌, ◌≢◌, map, OnOk, IfErr, Ok, Err};
+ghost use Rattle.std.specs.Prelude.{◌≡◌, ◌≢◌, length, map, OnOk, IfErr, Ok, Err};
 ghost use Rattle.line_lexer.specs.Names.{AreNames};
 ghost use Rattle.mapping_language.specs.Changes.{HaveOffsets};
 ghost use Rattle.mapping_language.specs.Mappings.{read_mapping_line};
 ghost use Rattle.mapping_language.specs.Tables.{read_source_line};
+ghost use Rattle.mapping_language.specs.Within.{AreFew, AreMappingsWithin};
 ghost use Rattle.mapping_facts.specs.Fits.{AreFit};
 ghost use Rattle.uml_model.specs.Rules.{class_named, link_named};
 
@@ -28,6 +29,7 @@ pub fn read_source_line(
     ensures unchanged { IfErr result (λ e. e ≢ LineFault.NoMemory → sources.new ≡ sources.old) }
     ensures offsets { HaveOffsets sources.old → OnOk result (HaveOffsets sources.new) }
     ensures fit { AreFit sources.old.mappings → OnOk result (AreFit sources.new.mappings) }
+    ensures mappings { OnOk result (sources.new.mappings ≡ sources.old.mappings) }
     ensures names { AreNames (map (λ m. m.name) sources.old.mappings) → OnOk result (AreNames (map (λ m. m.name) sources.new.mappings)) }
 {
     let tokens = tokens_of(alloc, line.text)?;
@@ -87,6 +89,8 @@ pub fn read_mapping_line(
     ensures offsets { HaveOffsets sources.new }
     ensures fit { AreFit sources.old.mappings → OnOk result (AreFit sources.new.mappings) }
     ensures names { AreNames (map (λ m. m.name) sources.old.mappings) → OnOk result (AreNames (map (λ m. m.name) sources.new.mappings)) }
+    ensures few { AreFew sources.old.mappings → OnOk result (AreFew sources.new.mappings) }
+    ensures within { AreMappingsWithin (length model.now.classes) (length model.now.links) sources.old.mappings → OnOk result (AreMappingsWithin (length model.now.classes) (length model.now.links) sources.new.mappings) }
 {
     read_tokens_of_mapping(alloc, sources, model, line)
 }
