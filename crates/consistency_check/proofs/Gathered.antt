@@ -51,7 +51,7 @@ not_met facts sources i d low before here_not z m met =
 abbrev pub Tells : List Axiom → Constraint → List Source → Type 0
 Tells axioms c sources = (facts : List Fact) → AreKnown facts → IsContradicted axioms facts c ↔ ((s : Source) × In s sources × Meets facts s)
 
-same_constraint : (c k : Constraint) (o : Option Constraint) → o ≡ Some c → o ≡ Some k → c ≡ k
+pub same_constraint : (c k : Constraint) (o : Option Constraint) → o ≡ Some c → o ≡ Some k → c ≡ k
 same_constraint c k o e f = let g : Some c ≡ Some k = sym e ∙ f in cc
 
 module _ (tbox : Tbox) (mappings : List Mapping) (tables : List Loaded) (n : ℕ) where

@@ -2,6 +2,7 @@ mod Apart
 mod Atoms
 mod Found
 pub mod Gathered
+pub mod Identified
 mod Known
 pub mod Meet
 pub mod Planned

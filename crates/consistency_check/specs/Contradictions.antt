@@ -4,6 +4,7 @@ use Rattle.std.specs.List.Sorted.{IsStrictlySortedBy}
 use Rattle.std.specs.Ordering.{nat_cmp}
 use Rattle.vocabulary.specs.Lists.{In, item}
 use Rattle.source_tables.specs.Tables.{Loaded}
+use Rattle.dllite_axioms.specs.declared.axioms.Axiom.{Axiom}
 use Rattle.dllite_axioms.specs.declared.axioms.Constraint.{Constraint}
 use Rattle.dllite_axioms.specs.declared.axioms.Tbox.{Tbox}
 use Rattle.dllite_axioms.specs.Clashes.{IsContradicted}
@@ -23,6 +24,10 @@ IsContradictedAt tbox mappings tables n = (c : Constraint) × (item tbox.constra
 abbrev pub IsContradiction : Tbox → List Mapping → List Loaded → ℕ → Option Derivation → Type 0
 IsContradiction tbox mappings tables n None = IsContradictedAt tbox mappings tables n → ⊥
 IsContradiction tbox mappings tables n (Some d) = IsAccepted tbox mappings tables d × (d.constraint ≡ n) × (length d.steps ≤ 8_000) × IsContradictedAt tbox mappings tables n
+
+-- and so in every model with these axioms that has this constraint at this number
+abbrev pub IsContradictionOf : List Axiom → List Mapping → List Loaded → ℕ → Constraint → Option Derivation → Type 0
+IsContradictionOf axioms mappings tables n c found = (tbox : Tbox) → axioms ≡ tbox.axioms → item tbox.constraints n ≡ Some c → IsContradiction tbox mappings tables n found
 
 -- among the first so many constraints: one accepted derivation for each that is contradicted over the mapped facts, and for no other, in increasing order
 pub record AreContradictions (tbox : Tbox) (mappings : List Mapping) (tables : List Loaded) (count : ℕ) (ds : List Derivation) : Type 0 where

@@ -1,4 +1,5 @@
 pub mod Asking
+pub mod Checkable
 pub mod Given
 pub mod Meeting
 pub mod Planned

@@ -1,54 +1,121 @@
 //! Contradicted constraints.
-ghost use Rattle.std.specs.Prelude.{◌≡◌, ◌<◌, ◌-◌, ◌^◌, length, IfOk};
+ghost use Rattle.std.specs.Prelude.{◌≡◌, ◌<◌, ◌+◌, ◌-◌, ◌^◌, length, IfOk};
 ghost use Rattle.vocabulary.specs.Lists.{In};
 ghost use Rattle.dllite_axioms.specs.Within.{IsAxiomWithin, IsConstraintWithin};
 ghost use Rattle.dllite_axioms.specs.declared.axioms.Axiom.{Axiom as AxiomOf};
 ghost use Rattle.dllite_axioms.specs.declared.axioms.Constraint.{Constraint as ConstraintOf};
+ghost use Rattle.dllite_axioms.specs.declared.axioms.Constraint.TheVariants.{Identified};
 ghost use Rattle.mapping_facts.specs.Fits.{AreFit};
+ghost use Rattle.mapping_facts.specs.declared.mapping.Mapping.{Mapping as MappingOf};
+ghost use Rattle.mapping_saturation.specs.Saturation.{AreTargetsWithin, with_targets};
 ghost use Rattle.negative_closure.specs.Sources.{HasExactSources};
-ghost use Rattle.consistency_check.specs.Contradictions.{AreContradictions, IsContradiction};
+ghost use Rattle.identification_check.specs.Violations.{AreAttributes};
+ghost use Rattle.consistency_check.specs.Checkable.{IsCheckable, IsPrepared, KnowAll};
+ghost use Rattle.consistency_check.specs.Contradictions.{AreContradictions, IsContradiction, IsContradictionOf};
 ghost use Rattle.consistency_check.specs.Given.{AreMarked};
 
 use crate::composing::derivation_of;
-use crate::given::Given;
 use crate::meeting::meet;
-use crate::{CLASSES, LINKS};
+use crate::prepared::Prepared;
 use conflict_checker::{Derivation, item};
 use dllite_axioms::{Constraint, Tbox};
+use identification_check::{Violation, find_violation};
 use mapping_facts::Mapping;
-use negative_closure::Downs;
 use source_tables::Table;
 use std::alloc::{AllocError, Global};
-use vocabulary::List;
+use vocabulary::{ClassId, LinkId, List};
+
+// The derivation of this constraint.
+fn numbered(constraint: u32, violation: Violation) -> Derivation
+    ensures { result ≡ record { constraint = constraint; steps = violation.steps; ends = violation.ends } }
+{
+    let Violation { steps, ends } = violation;
+    Derivation {
+        constraint,
+        steps,
+        ends,
+    }
+}
+
+// By two members that share their values.
+fn by_values(
+    alloc: Global,
+    number: u32,
+    class: ClassId,
+    links: &[LinkId],
+    prepared: &Prepared,
+    mappings: &[Mapping],
+    tables: &[Table],
+) -> Result<Option<Derivation>, AllocError>
+    requires fit { AreFit mappings.now }
+    requires within { IsConstraintWithin prepared.now.downs.classes prepared.now.downs.links (Identified class links.now) }
+    requires attributes { AreAttributes prepared.now.downs.axioms links.now }
+    requires saturated { KnowAll prepared.now.downs.axioms mappings.now prepared.now.saturated }
+    ensures { IfOk result (IsContradictionOf prepared.now.downs.axioms mappings.now tables.now number (Identified class links.now)) }
+{
+    let (downs, saturated) = (&prepared.downs, prepared.saturated.items());
+    match find_violation(alloc, class, links, downs, saturated, mappings, tables)? {
+        Some(violation) => Ok(Some(numbered(number, violation))),
+        None => Ok(None),
+    }
+}
+
+// By a source that mapped facts meet.
+fn by_sources(
+    alloc: Global,
+    number: u32,
+    constraint: &Constraint,
+    prepared: &Prepared,
+    mappings: &[Mapping],
+    tables: &[Table],
+) -> Result<Option<Derivation>, AllocError>
+    requires fit { AreFit mappings.now }
+    requires given { AreMarked mappings.now prepared.now.given }
+    requires within { IsConstraintWithin prepared.now.downs.classes prepared.now.downs.links constraint.now }
+    requires exact { HasExactSources prepared.now.downs.axioms constraint.now }
+    ensures { IfOk result (IsContradictionOf prepared.now.downs.axioms mappings.now tables.now number constraint.now) }
+{
+    let downs = &prepared.downs;
+    let sources = downs.empty_sources(alloc, constraint)?;
+    for source in sources.items() {
+        if let Some(met) = meet(alloc, source, &prepared.given, mappings, tables)? {
+            let plan = downs.plan(alloc, constraint, source)?;
+            return Ok(Some(derivation_of(alloc, number, met, &plan)?));
+        }
+    }
+    Ok(None)
+}
 
 // A derivation of a constraint, `None` exactly where it is not contradicted.
 fn contradiction(
     alloc: Global,
     number: u32,
     tbox: &Tbox,
-    downs: &Downs,
-    given: &Given,
+    prepared: &Prepared,
     mappings: &[Mapping],
     tables: &[Table],
 ) -> Result<Option<Derivation>, AllocError>
     requires fit { AreFit mappings.now }
-    requires axioms { downs.now ≡ record { axioms = tbox.now.axioms; classes = 400; links = 600 } }
+    requires prepared { IsPrepared tbox.now mappings.now prepared.now }
     requires constraints { (c : ConstraintOf) → In c tbox.now.constraints → IsConstraintWithin 400 600 c }
-    requires exact { (c : ConstraintOf) → In c tbox.now.constraints → HasExactSources tbox.now.axioms c }
-    requires given { AreMarked mappings.now given.now }
+    requires checkable { (c : ConstraintOf) → In c tbox.now.constraints → IsCheckable tbox.now.axioms c }
     ensures { IfOk result (λ found. IsContradiction tbox.now mappings.now tables.now number found) }
 {
     let Some(constraint) = item(tbox.constraints(), number) else {
         return Ok(None);
     };
-    let sources = downs.empty_sources(alloc, constraint)?;
-    for source in sources.items() {
-        if let Some(met) = meet(alloc, source, given, mappings, tables)? {
-            let plan = downs.plan(alloc, constraint, source)?;
-            return Ok(Some(derivation_of(alloc, number, met, &plan)?));
-        }
+    if let Constraint::Identified(class, links) = constraint {
+        return by_values(
+            alloc,
+            number,
+            *class,
+            links.items(),
+            prepared,
+            mappings,
+            tables,
+        );
     }
-    Ok(None)
+    by_sources(alloc, number, constraint, prepared, mappings, tables)
 }
 
 /// One accepted derivation for each constraint that is contradicted over the mapped facts, and none for
@@ -62,19 +129,18 @@ pub fn conflicts(
     requires fit { AreFit mappings.now }
     requires few_axioms { length tbox.now.axioms < 2 ^ 32 - 1 }
     requires few_constraints { length tbox.now.constraints < 2 ^ 32 - 1 }
+    requires few_targets { length mappings.now + length (with_targets mappings.now) < 2 ^ 32 }
     requires axioms { (a : AxiomOf) → In a tbox.now.axioms → IsAxiomWithin 400 600 a }
     requires constraints { (c : ConstraintOf) → In c tbox.now.constraints → IsConstraintWithin 400 600 c }
-    requires exact { (c : ConstraintOf) → In c tbox.now.constraints → HasExactSources tbox.now.axioms c }
+    requires targets { (m : MappingOf) → In m mappings.now → AreTargetsWithin 400 600 m.targets }
+    requires checkable { (c : ConstraintOf) → In c tbox.now.constraints → IsCheckable tbox.now.axioms c }
     ensures { IfOk result (AreContradictions tbox.now mappings.now tables.now (length tbox.now.constraints)) }
 {
-    let downs = Downs::of(alloc, tbox, CLASSES, LINKS)?;
-    let given = Given::by(alloc, mappings)?;
+    let prepared = Prepared::of(alloc, tbox, mappings)?;
     let mut found = List::new(alloc);
     for at in 0..tbox.constraints().len() {
         let number = at as u32 + 1;
-        if let Some(derivation) = contradiction(
-            alloc, number, tbox, &downs, &given, mappings, tables,
-        )? {
+        if let Some(derivation) = contradiction(alloc, number, tbox, &prepared, mappings, tables)? {
             found.push(derivation)?;
         }
     }

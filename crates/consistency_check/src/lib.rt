@@ -11,6 +11,7 @@ mod finding;
 mod given;
 mod meeting;
 mod met;
+mod prepared;
 
 pub use finding::conflicts;
 

@@ -74,12 +74,12 @@ class A
 onprom 1
 class A
 attr A u text 0..1
-=> Some(Line(3, NotBuilt))
+=> None
 ~
 onprom 1
 class A
 assoc p A 1 -> A *
-=> Some(Line(3, NotBuilt))
+=> None
 ~
 onprom 1
 class A
@@ -91,7 +91,7 @@ class A
 class B
 disjoint A B
 
-=> Some(Line(4, NotBuilt))
+=> None
 ~
 onprom 1
 class A
@@ -118,13 +118,33 @@ onprom 1
 class A
 assoc p A * -> A *
 disjointassoc p Zed
-=> Some(Line(4, NotBuilt))
+=> Some(Line(4, Unknown))
 ~
 onprom 1
 class A
 attr A u text *
 identify A (u, u)
-=> Some(Line(4, NotBuilt))
+=> Some(Line(4, TypeMismatch))
+~
+onprom 1
+table t \"t.csv\"
+column t a text
+column t b text
+class A
+class B
+assoc p A * -> B 0..1
+assoc q A * -> B *
+subassoc q p
+=> Some(Line(9, FunctionalSpecialised))
+~
+onprom 1
+class A
+attr A u text *
+attr A v text *
+attr A w text *
+attr A x text *
+identify A (u, v, w, x)
+=> Some(Limit(IdentifyingAttributes))
 ~
 onprom 1
 class A

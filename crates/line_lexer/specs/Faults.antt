@@ -3,7 +3,7 @@ use Rattle.std.specs.Prelude.{ℕ, List, codes}
 use Rattle.line_lexer.specs.declared.fault.Counted.{Counted}
 use Rattle.line_lexer.specs.declared.fault.Counted.TheVariants.{File, TablesTogether, Lines, Tables, Columns, Keys, Rows, Classes, Links, Axioms, Constraints, Mappings, TablesOfMapping, Conditions, Targets, Atoms, Variables, Events, EventKeys, Queries, Rewriting, Steps, IdentifyingAttributes}
 use Rattle.line_lexer.specs.declared.fault.LineFault.{LineFault}
-use Rattle.line_lexer.specs.declared.fault.LineFault.TheVariants.{Syntax, Unknown, Double, TypeMismatch, BadTemplate, NotBounded, MixedSort, HeadUnbound, BadKey, NoCase, NoCases, NoTime, NoActivity, FunctionalSpecialised, NotBuilt, Limit, NoMemory}
+use Rattle.line_lexer.specs.declared.fault.LineFault.TheVariants.{Syntax, Unknown, Double, TypeMismatch, BadTemplate, NotBounded, MixedSort, HeadUnbound, BadKey, NoCase, NoCases, NoTime, NoActivity, FunctionalSpecialised, Limit, NoMemory}
 
 -- what is counted, as `limit: NAME` prints it
 abbrev pub name_of : Counted → List ℕ
@@ -73,6 +73,5 @@ kind_of NoCases = codes "NoCases"
 kind_of NoTime = codes "NoTime"
 kind_of NoActivity = codes "NoActivity"
 kind_of FunctionalSpecialised = codes "FunctionalSpecialised"
-kind_of NotBuilt = codes "NotBuilt"
 kind_of (Limit what) = codes "Limit"
 kind_of NoMemory = codes "NoMemory"

@@ -106,7 +106,7 @@ impl Counted {
 }
 
 /// What a line may break. A line's fault is the first kind that it has over the whole line, in the order Syntax,
-/// NotBuilt, Unknown, Double, TypeMismatch, FunctionalSpecialised, BadTemplate, NotBounded, MixedSort, HeadUnbound,
+/// Unknown, Double, TypeMismatch, FunctionalSpecialised, BadTemplate, NotBounded, MixedSort, HeadUnbound,
 /// BadKey, Limit. NoCase, NoCases, NoTime and NoActivity are faults of a project, found behind its last line. Want of
 /// memory may come at any time.
 #[derive(Clone, Copy, Debug, PartialEq, Eq)]
@@ -139,8 +139,6 @@ pub enum LineFault {
     NoActivity,
     /// A functional association or attribute that has one below it.
     FunctionalSpecialised,
-    /// A form that is not read yet.
-    NotBuilt,
     /// A count that passes its number.
     Limit(Counted),
     /// No memory was left.
@@ -169,7 +167,6 @@ impl LineFault {
             LineFault::NoTime => "NoTime",
             LineFault::NoActivity => "NoActivity",
             LineFault::FunctionalSpecialised => "FunctionalSpecialised",
-            LineFault::NotBuilt => "NotBuilt",
             LineFault::Limit(_) => "Limit",
             LineFault::NoMemory => "NoMemory",
         }

@@ -1,9 +1,7 @@
 -- How an answer and a rewriting end, by what was found.
 use Rattle.std.proofs.Common.{◌≡◌, refl, List, ℕ}
-use Rattle.vocabulary.specs.Lists.{In, IsListOf}
-use Rattle.vocabulary.specs.declared.term.Fact.{Fact}
+use Rattle.vocabulary.specs.Lists.{IsListOf}
 use Rattle.vocabulary.specs.declared.term.Term.{Term}
-use Rattle.dllite_axioms.specs.declared.axioms.Axiom.{Axiom}
 use Rattle.dllite_axioms.specs.declared.axioms.Tbox.{Tbox}
 use Rattle.source_tables.specs.Tables.{Loaded}
 use Rattle.queries.specs.declared.query.Query.{Query}
@@ -14,10 +12,11 @@ use Rattle.mapping_facts.specs.Facts.{mapped_facts}
 use Rattle.perfect_rewriting.specs.Reach.{Reach}
 use Rattle.perfect_rewriting.specs.Rewriting.{GiveCertain, IsTooWide}
 use Rattle.query_subsumption.specs.Kept.{SameImages}
+use Rattle.annotation_language.specs.Askable.{IsAskable}
 use Rattle.answer_text.specs.Answers.{answers_report, answers_text}
 use Rattle.project_language.specs.declared.project.Project.{Project}
 use Rattle.onprom_core.specs.Jobs.{EndsAnswering, EndsRewriting, Ending, answered, rewritten, too_wide, wide_end}
-use Rattle.onprom_core.specs.Meaning.{certain, tbox}
+use Rattle.onprom_core.specs.Meaning.{AnswerAs, certain, tbox}
 use Rattle.onprom_core.specs.Rewritten.{PrintsKept, done_with}
 
 -- the certain answers are listed, or the query is too wide
@@ -36,23 +35,23 @@ module _ (project : Project) (tables : List Loaded) (q : Query) (t : Tbox) (mapp
       too_wide asks is
 
 -- queries that have the same head images give the certain answers as well
-pub same_answers : (axioms : List Axiom) (q : Query) (members kept : List Query) → SameImages members kept → GiveCertain axioms q members → GiveCertain axioms q kept
-same_answers axioms q members kept same give = λ known stands facts are tuple.
-    let g = give known stands facts are tuple in
+pub same_answers : (project : Project) (q : Query) (members kept : List Query) → IsAskable q → SameImages members kept → GiveCertain (tbox project).axioms q members → AnswerAs project q kept
+same_answers project q members kept askable same give = λ facts are tuple.
+    let g = give askable.known askable.stands facts are tuple in
     let s = same facts tuple in (
-      (λ c. let m = g.0 c in let k = s.0 (m.0, m.2, (m.1, m.3)) in (k.0, k.2.0, k.1, k.2.1)),
-      (λ k. let m = s.1 (k.0, k.2, (k.1, k.3)) in g.1 (m.0, m.2.0, m.1, m.2.1)),
+      (λ c. let m = g.0 c in s.0 (m.0, m.2, (m.1, m.3))),
+      (λ k. let m = s.1 k in g.1 (m.0, m.2.0, m.1, m.2.1)),
     )
 
 -- the kept queries are printed, or the query is too wide
 module _ (project : Project) (name : List ℕ) (q : Query) (t : Tbox) (axioms : t ≡ tbox project) where
-  pub ends_rewritten : (members : List Query) (e : Ending) → IsListOf query_cmp (Reach t.axioms q) members → (IsTooWide t.axioms q → ⊥) → GiveCertain t.axioms q members
+  pub ends_rewritten : (members : List Query) (e : Ending) → IsAskable q → IsListOf query_cmp (Reach t.axioms q) members → (IsTooWide t.axioms q → ⊥) → GiveCertain t.axioms q members
       → PrintsKept project name members e → EndsRewriting project name q e
-  ends_rewritten members e listed narrow give prints =
+  ends_rewritten members e askable listed narrow give prints =
       let are : IsListOf query_cmp (Reach (tbox project).axioms q) members = rw axioms at listed in
       let fit : IsTooWide (tbox project).axioms q → ⊥ = rw axioms at narrow in
       let gives : GiveCertain (tbox project).axioms q members = rw axioms at give in
-      rewritten fit members prints.kept are prints.are_kept (same_answers (tbox project).axioms q members prints.kept prints.images gives) prints.none_maps prints.end
+      rewritten fit members prints.kept are prints.are_kept (same_answers project q members prints.kept askable prints.images gives) prints.none_maps prints.end
 
   pub rewrites_too_wide : (e : Ending) → IsTooWide t.axioms q → e ≡ wide_end → EndsRewriting project name q e
   rewrites_too_wide e wide is =

@@ -22,10 +22,10 @@ use Rattle.onprom_core.specs.Walk.{Files, Extracting, command_step, complete_ste
 not_past : (limit n : ℕ) → n ≤ limit → nat_lt limit n ≡ false
 not_past limit n within = grind arith
 
-onward : {A B : Type 0} (m : Step A) (f : A → Step B) (v : A) (w : B) → m.end ≡ Ok v → (f v).end ≡ Ok w → (m >>= f).end ≡ Ok w
+pub onward : {A B : Type 0} (m : Step A) (f : A → Step B) (v : A) (w : B) → m.end ≡ Ok v → (f v).end ≡ Ok w → (m >>= f).end ≡ Ok w
 onward m f v w first second = rw first second
 
-file_held : (files : Files) (name bytes : List ℕ) → IsHeld files name bytes → (file_step files name).end ≡ Ok bytes
+pub file_held : (files : Files) (name bytes : List ℕ) → IsHeld files name bytes → (file_step files name).end ≡ Ok bytes
 file_held files name bytes h = rw h.0 (rw (not_past (limit_of File) (length bytes) h.1) refl)
 
 -- a table of an accepted project is read, counted and loaded
@@ -36,7 +36,7 @@ table_read files before decl table bytes held within loaded =
     onward (file_step files decl.file) _ bytes _ (file_held files decl.file bytes held)
     (rw (not_past (limit_of TablesTogether) (before + length bytes) within) (rw loaded refl))
 
-tables_read : (files : Files) (before : ℕ) (decls : List TableDecl) (tables : List Loaded) → AreTables files before decls tables → (tables_step files before decls).end ≡ Ok tables
+pub tables_read : (files : Files) (before : ℕ) (decls : List TableDecl) (tables : List Loaded) → AreTables files before decls tables → (tables_step files before decls).end ≡ Ok tables
 unfolding tables_step
 tables_read files before [] [] all = refl
 tables_read files before [] (table ∷ tables) all = absurd all
@@ -60,7 +60,7 @@ whole project tables e r (extracted agrees narrow done texts) same = rw (same �
 whole project tables e r (too_wide agrees wide is) same = rw (same ∙ ap (λ e. e.status) is) (record { written = λ x. cc; reported = λ x. cc; memory = λ x. cc }, λ x. cc)
 whole project tables e r (contradicted clash ds are is) same = rw (same ∙ ap (λ e. e.status) is) (record { written = λ x. cc; reported = λ x. cc; memory = λ x. cc }, λ x. cc)
 
-Keeps-of : (a b : Option (List ℕ)) → Appends a b [] → Keeps a b
+pub Keeps-of : (a b : Option (List ℕ)) → Appends a b [] → Keeps a b
 Keeps-of None b is = tt
 Keeps-of (Some x) None is = absurd is
 Keeps-of (Some x) (Some y) is = is ∙ append-nil x

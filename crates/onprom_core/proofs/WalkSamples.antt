@@ -9,6 +9,7 @@ use Rattle.mapping_language.specs.Grammar as map_grammar
 use Rattle.mapping_language.specs.Tables as map_tables
 use Rattle.annotation_language.specs.Grammar as note_grammar
 use Rattle.annotation_language.specs.Lines as note_lines
+use Rattle.derivation_text.specs.Reading as derivations
 use Rattle.project_language.specs.Project.{nothing, open_lines, read_lines, read_project}
 use Rattle.project_language.specs.declared.fault.ProjectFault.{ProjectFault}
 use Rattle.project_language.specs.declared.project.Project.{Project}
@@ -17,7 +18,7 @@ use Rattle.onprom_core.specs.declared.halt.Stopped.{Stopped}
 use Rattle.onprom_core.specs.Commands.{Extract, Check, Verify, Answer, Rewrite, Make, command_of}
 use Rattle.onprom_core.specs.Headline.{IsAcceptedProject}
 use Rattle.onprom_core.specs.Lines.{line_refused, usage_line}
-use Rattle.onprom_core.specs.Walk.{Files, Job, extract_step, one_table, tables_step, walk}
+use Rattle.onprom_core.specs.Walk.{Files, Job, check_step, extract_step, one_table, tables_step, verify_step, walk}
 
 -- each command; a number of documents has no leading zero, is not 0 and at most 100,000
 commands : map command_of ((codes "extract" ∷ codes "p" ∷ []) ∷ (codes "check" ∷ codes "p" ∷ []) ∷ (codes "verify" ∷ codes "p" ∷ codes "d" ∷ []) ∷ (codes "answer" ∷ codes "p" ∷ codes "q" ∷ []) ∷ (codes "rewrite" ∷ codes "p" ∷ codes "q" ∷ []) ∷ (codes "make" ∷ codes "100000" ∷ codes "summary" ∷ []) ∷ [])
@@ -38,8 +39,8 @@ stopped_with (Err stopped) = Some stopped
 abbrev extract : List ℕ → Files → Option Stopped
 extract p files = stopped_with (walk (codes "extract" ∷ p ∷ []) files).end
 
--- a command that is not built is none
-usage : stopped_with (walk (codes "check" ∷ codes "p" ∷ []) []).end ≡ Some (record { status = status.Usage; line = usage_line })
+-- words that match no line of the table
+usage : stopped_with (walk (codes "check" ∷ []) []).end ≡ Some (record { status = status.Usage; line = usage_line })
 unfolding walk
 usage = refl
 
@@ -69,6 +70,26 @@ table_begun = refl
 done : extract (codes "p") (held (codes "onprom 1\nclass A\ncase c where A(c)\n")) ≡ None
 unfolding walk extract_step tables_step chars tokens_behind token_front model_lines.model_line model_rules.broken note_grammar.at_most note_grammar.atom note_grammar.of_any note_grammar.of_one note_grammar.annotation_line note_lines.broken note_lines.grown open_lines read_lines read_project is_utf8 lib.Utf8.encode
 done = refl
+
+-- `check` asks for no annotations, and a constraint is read as any other line
+abbrev clashing : List ℕ
+clashing = codes "onprom 1\nclass A\nclass B\ndisjoint A B\n"
+
+checked : stopped_with (walk (codes "check" ∷ codes "p" ∷ []) (held clashing)).end ≡ None
+unfolding walk check_step tables_step chars tokens_behind token_front model_lines.model_line model_rules.broken open_lines read_lines read_project is_utf8 lib.Utf8.encode
+checked = refl
+
+-- the derivations of `verify` are read behind the project and its tables
+abbrev verified : Files → Option Stopped
+verified files = stopped_with (walk (codes "verify" ∷ codes "p" ∷ codes "d" ∷ []) files).end
+
+no_derivations : verified (held clashing) ≡ Some (record { status = status.Absent; line = codes "absent: d\n" })
+unfolding walk verify_step tables_step chars tokens_behind token_front model_lines.model_line model_rules.broken open_lines read_lines read_project is_utf8 lib.Utf8.encode
+no_derivations = refl
+
+no_end : verified ((codes "p", clashing) ∷ (codes "d", codes "conflict 1\n") ∷ []) ≡ Some (record { status = status.Refused; line = codes "refused: d line 2: Syntax\n" })
+unfolding digits walk verify_step tables_step line_refused chars tokens_behind token_front model_lines.model_line model_rules.broken open_lines read_lines read_project derivations.line_said derivations.read_lines is_utf8 lib.Utf8.encode
+no_end = refl
 
 -- the project that was read, where one was
 abbrev project_or_none : Result Project ProjectFault → Project

@@ -4,16 +4,17 @@ use Rattle.std.proofs.lemmas.List.{take_all}
 use Rattle.std.proofs.lemmas.List.Elements.{Contains-append_left, Contains-append_right}
 use Rattle.source_tables.specs.declared.decl.TableDecl.{TableDecl}
 use Rattle.source_tables.specs.Tables.{Loaded}
+use Rattle.conflict_checker.specs.declared.derivation.Derivation.{Derivation}
 use Rattle.project_language.specs.declared.project.Project.{Project}
-use Rattle.onprom_core.specs.declared.extraction.Output.{Output}
+use Rattle.onprom_core.specs.declared.output.Output.{Output}
 use Rattle.onprom_core.specs.declared.halt.Stopped.{Stopped}
 use Rattle.onprom_core.specs.declared.halt.Halt.{Halt}
 use Rattle.onprom_core.specs.declared.halt.Halt.TheVariants as halt
-use Rattle.onprom_core.specs.Commands.{Extract}
-use Rattle.onprom_core.specs.Jobs.{EndsExtraction}
-use Rattle.onprom_core.specs.Outputs.{Adds, Works, ended, rest_step}
+use Rattle.onprom_core.specs.Commands.{Command}
+use Rattle.onprom_core.specs.Jobs.{EndsCheck, EndsExtraction, EndsVerification}
+use Rattle.onprom_core.specs.Outputs.{Adds, Works, check_rest, ended, extract_rest, verify_behind, verify_rest}
 use Rattle.onprom_core.specs.Steps.{Step, ◌>>=◌, bind_end, Halts}
-use Rattle.onprom_core.specs.Walk.{Files, Job, Extracting, command_step, complete_step, extract_step, job_step, one_table, project_step, sources_step, tables_step, walk}
+use Rattle.onprom_core.specs.Walk.{Files, Job, Extracting, Checking, Verifying, check_step, command_step, complete_step, extract_step, file_step, job_step, one_table, project_step, sources_step, spell_step, tables_step, verify_step, walk}
 
 -- what stops a later step stops the whole
 pub Halts-then : {A Y : Type 0} (m : Step A) (f : A → Step Y) (v : A) (h : Halt) → m.end ≡ Ok v → Halts h (f v) → Halts h (m >>= f)
@@ -31,32 +32,81 @@ Halts-early {A} {Y} m f (halt.ReadFault name) halts = by m.end
     by (Err stopped) = halts
 Halts-early m f halt.NoMemory halts = tt
 
-Works-then : {A : Type 0} (m : Step A) (f : A → Step Job) (v : A) (r : Result Output Halt) → m.end ≡ Ok v → Works r (f v) → Works r (m >>= f)
+pub Works-then : {A : Type 0} (m : Step A) (f : A → Step Job) (v : A) (r : Result Output Halt) → m.end ≡ Ok v → Works r (f v) → Works r (m >>= f)
 Works-then m f v (Ok output) is works = rw is works
 Works-then m f v (Err h) is halts = Halts-then m f v h is halts
 
 -- what the command does, where the words name it
-pub works_from : (held : Option Files) (words : List (List ℕ)) (name : List ℕ) (r : Result Output Halt) → (command_step words).end ≡ Ok (Extract name) → IfSome held (λ files. Works r (extract_step files name)) → IfSome held (λ files. Works r (walk words files))
+pub works_from : (held : Option Files) (words : List (List ℕ)) (command : Command) (r : Result Output Halt) → (command_step words).end ≡ Ok command → IfSome held (λ files. Works r (job_step files command)) → IfSome held (λ files. Works r (walk words files))
 unfolding walk
-works_from None words name r named last = tt
-works_from (Some files) words name r named last = Works-then (command_step words) (job_step files) (Extract name) r named last
+works_from None words command r named last = tt
+works_from (Some files) words command r named last = Works-then (command_step words) (job_step files) command r named last
 
--- the extraction does what the steps behind its project do
-pub rest_from : (held : Option Files) (name : List ℕ) (project : Project) (r : Result Output Halt) → IfSome held (λ files. (project_step files name).end ≡ Ok project)
-    → IfSome held (λ files. Works r (rest_step files name project)) → IfSome held (λ files. Works r (extract_step files name))
-unfolding extract_step rest_step
-rest_from None name project r read last = tt
-rest_from (Some files) name project r read last = Works-then (project_step files name) (rest_step files name) project r read last
+-- a command does what the steps behind its project do
+module _ (held : Option Files) (name : List ℕ) (project : Project) (r : Result Output Halt) (read : IfSome held (λ files. (project_step files name).end ≡ Ok project)) where
+  pub extract_from : IfSome held (λ files. Works r (extract_rest files name project)) → IfSome held (λ files. Works r (extract_step files name))
+  unfolding extract_step extract_rest
+  extract_from = by held read
+    where
+      by : (h : Option Files) → IfSome h (λ files. (project_step files name).end ≡ Ok project) → IfSome h (λ files. Works r (extract_rest files name project)) → IfSome h (λ files. Works r (extract_step files name))
+      by None read last = tt
+      by (Some files) read last = Works-then (project_step files name) (extract_rest files name) project r read last
 
--- the job is done, where all is read
-pub extracted_from : (held : Option Files) (name : List ℕ) (project : Project) (tables : List Loaded) (output : Output)
-    → (complete_step name project).end ≡ Ok project → IfSome held (λ files. (tables_step files 0 project.sources.tables).end ≡ Ok tables) → EndsExtraction project tables (ended output)
-    → IfSome held (λ files. Works (Ok output) (rest_step files name project))
-unfolding rest_step
-extracted_from None name project tables output whole loaded ends = tt
-extracted_from (Some files) name project tables output whole loaded ends =
-    Works-then (complete_step name project) _ project (Ok output) whole (
-    Works-then (sources_step files project) _ tables (Ok output) loaded (Extracting project tables, refl, ends))
+  pub check_from : IfSome held (λ files. Works r (check_rest files project)) → IfSome held (λ files. Works r (check_step files name))
+  unfolding check_step check_rest
+  check_from = by held read
+    where
+      by : (h : Option Files) → IfSome h (λ files. (project_step files name).end ≡ Ok project) → IfSome h (λ files. Works r (check_rest files project)) → IfSome h (λ files. Works r (check_step files name))
+      by None read last = tt
+      by (Some files) read last = Works-then (project_step files name) (check_rest files) project r read last
+
+  pub verify_from : (d : List ℕ) → IfSome held (λ files. Works r (verify_rest files d project)) → IfSome held (λ files. Works r (verify_step files name d))
+  unfolding verify_step verify_rest verify_behind
+  verify_from d = by held read
+    where
+      by : (h : Option Files) → IfSome h (λ files. (project_step files name).end ≡ Ok project) → IfSome h (λ files. Works r (verify_rest files d project)) → IfSome h (λ files. Works r (verify_step files name d))
+      by None read last = tt
+      by (Some files) read last = Works-then (project_step files name) (verify_rest files d) project r read last
+
+-- a job is done, where all is read
+module _ (held : Option Files) (project : Project) (tables : List Loaded) where
+  pub extracted_from : (name : List ℕ) (output : Output) → (complete_step name project).end ≡ Ok project → IfSome held (λ files. (tables_step files 0 project.sources.tables).end ≡ Ok tables) → EndsExtraction project tables (ended output)
+      → IfSome held (λ files. Works (Ok output) (extract_rest files name project))
+  unfolding extract_rest
+  extracted_from name output whole loaded ends = by held loaded
+    where
+      by : (h : Option Files) → IfSome h (λ files. (tables_step files 0 project.sources.tables).end ≡ Ok tables) → IfSome h (λ files. Works (Ok output) (extract_rest files name project))
+      by None loaded = tt
+      by (Some files) loaded =
+          Works-then (complete_step name project) _ project (Ok output) whole (
+          Works-then (sources_step files project) _ tables (Ok output) loaded (Extracting project tables, refl, ends))
+
+  pub checked_from : (output : Output) → IfSome held (λ files. (tables_step files 0 project.sources.tables).end ≡ Ok tables) → EndsCheck project tables (ended output) → IfSome held (λ files. Works (Ok output) (check_rest files project))
+  unfolding check_rest
+  checked_from output loaded ends = by held loaded
+    where
+      by : (h : Option Files) → IfSome h (λ files. (tables_step files 0 project.sources.tables).end ≡ Ok tables) → IfSome h (λ files. Works (Ok output) (check_rest files project))
+      by None loaded = tt
+      by (Some files) loaded = Works-then (sources_step files project) _ tables (Ok output) loaded (Checking project tables, refl, ends)
+
+  pub behind_tables : (d : List ℕ) (r : Result Output Halt) → IfSome held (λ files. (tables_step files 0 project.sources.tables).end ≡ Ok tables) → IfSome held (λ files. Works r (verify_behind files d project tables)) → IfSome held (λ files. Works r (verify_rest files d project))
+  unfolding verify_rest
+  behind_tables d r loaded last = by held loaded last
+    where
+      by : (h : Option Files) → IfSome h (λ files. (tables_step files 0 project.sources.tables).end ≡ Ok tables) → IfSome h (λ files. Works r (verify_behind files d project tables)) → IfSome h (λ files. Works r (verify_rest files d project))
+      by None loaded last = tt
+      by (Some files) loaded last = Works-then (sources_step files project) _ tables r loaded last
+
+  pub verified_from : (d bytes : List ℕ) (ds : List Derivation) (output : Output) → IfSome held (λ files. (file_step files d).end ≡ Ok bytes) → (spell_step project d bytes).end ≡ Ok ds → EndsVerification project tables ds (ended output)
+      → IfSome held (λ files. Works (Ok output) (verify_behind files d project tables))
+  unfolding verify_behind
+  verified_from d bytes ds output got read ends = by held got
+    where
+      by : (h : Option Files) → IfSome h (λ files. (file_step files d).end ≡ Ok bytes) → IfSome h (λ files. Works (Ok output) (verify_behind files d project tables))
+      by None got = tt
+      by (Some files) got =
+          Works-then (file_step files d) _ bytes (Ok output) got (
+          Works-then (spell_step project d bytes) _ ds (Ok output) read (Verifying project tables ds, refl, ends))
 
 -- the tables behind one that was read
 pub adds_from : (held : Option Files) (before total : ℕ) (decl : TableDecl) (decls : List TableDecl) (table : Loaded) (old new : List Loaded) (r : Result (Unit {0}) Halt)

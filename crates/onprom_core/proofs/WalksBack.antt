@@ -34,7 +34,7 @@ within : (limit n : ℕ) → nat_lt limit n ≡ false → n ≤ limit
 within limit n fits = grind (arith, nat_tests, fits)
 
 -- a file went on: it is held
-held_back : (files : Files) (name bytes : List ℕ) → (file_step files name).end ≡ Ok bytes → IsHeld files name bytes
+pub held_back : (files : Files) (name bytes : List ℕ) → (file_step files name).end ≡ Ok bytes → IsHeld files name bytes
 held_back files name bytes = by (bytes_of files name) refl
   where
     by : (o : Option (List ℕ)) → bytes_of files name ≡ o → (held_step name o).end ≡ Ok bytes → IsHeld files name bytes
@@ -67,7 +67,7 @@ loaded_back decl v (Err tf.TooManyRows) e = absurd cc
 loaded_back decl v (Err tf.NoMemory) e = absurd cc
 
 -- a project went on: it is the one of its text
-read_back : (p : List ℕ) (v : Project) (o : Result Project ProjectFault) → (read_step p o).end ≡ Ok v → o ≡ Ok v
+pub read_back : (p : List ℕ) (v : Project) (o : Result Project ProjectFault) → (read_step p o).end ≡ Ok v → o ≡ Ok v
 read_back p v (Ok project) e = cc
 read_back p v (Err (pf.NotUtf8 line)) e = absurd cc
 read_back p v (Err (pf.Line line kind)) e = absurd cc
@@ -75,7 +75,7 @@ read_back p v (Err (pf.Limit what)) e = absurd cc
 read_back p v (Err pf.NoMemory) e = absurd cc
 
 -- annotations went on: they lack nothing
-lack_back : (p : List ℕ) (project v : Project) (o : Option Lack) → (lack_step p project o).end ≡ Ok v → (o ≡ None) × (project ≡ v)
+pub lack_back : (p : List ℕ) (project v : Project) (o : Option Lack) → (lack_step p project o).end ≡ Ok v → (o ≡ None) × (project ≡ v)
 lack_back p project v None e = (refl, cc)
 lack_back p project v (Some Case) e = absurd cc
 lack_back p project v (Some (Cases line)) e = absurd cc

@@ -1,5 +1,5 @@
--- The table of commands: what words name, and which commands are built.
-use Rattle.std.specs.Prelude.{ℕ, ◌+◌, ◌*◌, ◌-◌, ◌&&◌, nat_lt, nat_le, Bool, true, false, List, [], ◌∷◌, Option, Some, None, if◌then◌else◌, codes, decimal}
+-- The table of commands: what words name.
+use Rattle.std.specs.Prelude.{ℕ, ◌+◌, ◌*◌, ◌-◌, ◌&&◌, nat_lt, nat_le, Bool, false, List, [], ◌∷◌, Option, Some, None, if◌then◌else◌, is_some, codes, decimal}
 use Rattle.std.specs.List.{list_any}
 use Rattle.std.specs.Str.{bytes_eq}
 
@@ -43,15 +43,6 @@ command_of (word ∷ p ∷ []) = one_file word p
 command_of (word ∷ p ∷ q ∷ []) = file_and_name word p q
 command_of words = None
 
--- the commands that are built; a line of the table that is not built counts as none, and this goes out when all are
-abbrev pub is_built : Command → Bool
-is_built (Extract p) = true
-is_built (Check p) = false
-is_built (Verify p d) = false
-is_built (Answer p q) = false
-is_built (Rewrite p q) = false
-is_built (Make n f) = false
-
 -- the words are `extract` and one more
 abbrev pub is_extract : List (List ℕ) → Bool
 is_extract (word ∷ p ∷ []) = bytes_eq word (codes "extract")
@@ -61,3 +52,31 @@ is_extract words = false
 abbrev pub is_check : List (List ℕ) → Bool
 is_check (word ∷ p ∷ []) = bytes_eq word (codes "check")
 is_check words = false
+
+-- the words are `verify` and two more
+abbrev pub is_verify : List (List ℕ) → Bool
+is_verify (word ∷ p ∷ d ∷ []) = bytes_eq word (codes "verify")
+is_verify words = false
+
+-- the words are `answer` and two more
+abbrev pub is_answer : List (List ℕ) → Bool
+is_answer (word ∷ p ∷ q ∷ []) = bytes_eq word (codes "answer")
+is_answer words = false
+
+-- the words are `rewrite` and two more
+abbrev pub is_rewrite : List (List ℕ) → Bool
+is_rewrite (word ∷ p ∷ q ∷ []) = bytes_eq word (codes "rewrite")
+is_rewrite words = false
+
+-- the number that a text names for `make`, where it names one
+abbrev pub count_named : List ℕ → Option ℕ
+count_named text = if is_count text then Some (value_behind 0 text) else None
+
+-- the number of documents, where the words are `make`, such a number and a made file
+abbrev pub docs_named : List (List ℕ) → Option ℕ
+docs_named (word ∷ n ∷ f ∷ []) = if bytes_eq word (codes "make") && is_made f then count_named n else None
+docs_named words = None
+
+-- the words are those of `make`
+abbrev pub is_make : List (List ℕ) → Bool
+is_make words = is_some (docs_named words)

@@ -1,20 +1,37 @@
--- The headline of `extract P`, over the definition of an accepted project.
-use Rattle.std.specs.Prelude.{◌≡◌, ◌≢◌, ℕ, ◌+◌, ◌≤◌, List, [], ◌∷◌, codes, length, Option, Some, Ok}
+-- The sentences of the six commands, over the definitions of a project that is read, and of one that is accepted.
+use Rattle.std.specs.Prelude.{◌≡◌, ◌≢◌, ℕ, ◌+◌, ◌≤◌, true, List, [], ◌∷◌, ◌++◌, codes, decimal, length, Option, Some, Ok}
+use Rattle.std.specs.Str.{is_utf8}
 use Rattle.std.specs.Io.KnownBytes.{Appends, Keeps}
+use Rattle.vocabulary.specs.Lists.{IsListOf}
+use Rattle.vocabulary.specs.declared.term.Term.{Term}
 use Rattle.outside.specs.Counts.{Rose}
 use Rattle.outside.specs.Files.{bytes_of}
 use Rattle.line_lexer.specs.Faults.{limit_of, name_of}
 use Rattle.line_lexer.specs.declared.fault.Counted.TheVariants.{File, TablesTogether, Rewriting as RewritingCount}
 use Rattle.source_tables.specs.declared.decl.TableDecl.{TableDecl}
 use Rattle.source_tables.specs.Tables.{Loaded, table_of}
+use Rattle.queries.specs.declared.query.Query.{Query}
+use Rattle.queries.specs.Order.{query_cmp, tuple_cmp}
+use Rattle.perfect_rewriting.specs.Reach.{Reach}
+use Rattle.query_subsumption.specs.Kept.{NoneMaps}
+use Rattle.query_subsumption.specs.Subsumption.{AreKept}
+use Rattle.answer_text.specs.Answers.{answers_report, answers_text}
+use Rattle.answer_text.specs.Queries.{queries_report}
 use Rattle.annotation_language.specs.Complete.{IsComplete}
+use Rattle.annotation_language.specs.Named.{query_named}
+use Rattle.big_project.specs.Files.{file_of, made_files}
+use Rattle.big_project.specs.Summary.{first_line}
 use Rattle.conflict_checker.specs.declared.derivation.Derivation.{Derivation}
+use Rattle.conflict_checker.specs.Derivations.{IsAccepted}
+use Rattle.derivation_text.specs.Reading.{derivations_of}
 use Rattle.project_language.specs.declared.project.Project.{Project}
 use Rattle.project_language.specs.Project.{read_project}
 use Rattle.onprom_core.specs.declared.status.Status.{Status}
 use Rattle.onprom_core.specs.declared.status.Status.TheVariants as status
-use Rattle.onprom_core.specs.Lines.{limit_line}
-use Rattle.onprom_core.specs.Meaning.{AreContradictions, IsConsistentProject, IsExtracted, IsWide, spelled}
+use Rattle.onprom_core.specs.Lines.{limit_line, named_line}
+use Rattle.onprom_core.specs.Delivery.{IsFirstEnd}
+use Rattle.onprom_core.specs.Jobs.{Ending, printed}
+use Rattle.onprom_core.specs.Meaning.{AnswerAs, AreAccepted, AreContradictions, IsConsistentProject, IsExtracted, IsTooWideToAnswer, IsTooWideToRewrite, IsWide, certain, contradicted_lines, mapping_names, spelled, tbox}
 use Rattle.onprom_core.specs.Walk.{Files}
 
 -- the file is held, and not too long
@@ -85,3 +102,137 @@ abbrev pub ExtractsSoundly : List (List ℕ) → Files → (out out' report repo
 ExtractsSoundly words files out out' report report' result =
     (p : List ℕ) → words ≡ codes "extract" ∷ p ∷ [] → result ≡ status.Done
     → (project : Project) × (tables : List Loaded) × IsAcceptedProject files p project tables × IsConsistentProject project tables × WritesLog project tables out out' report report' result
+
+-- nothing is contradicted, and nothing was written
+pub record TellsConsistency (out out' report report' : Option (List ℕ)) (result : Status) : Type 0 where
+  pub done : result ≡ status.Done
+  pub unwritten : Keeps out out'
+  pub reported : Appends report report' (codes "consistent\n")
+
+-- one accepted derivation was written for each contradicted constraint and for no other, and the numbers of these were reported
+pub record WritesContradictions (project : Project) (tables : List Loaded) (out out' report report' : Option (List ℕ)) (result : Status) : Type 0 where
+  pub conflict : result ≡ status.Conflict
+  pub derivations : List Derivation
+  pub accepted : AreContradictions project tables derivations
+  pub written : Appends out out' (spelled project derivations)
+  pub reported : Appends report report' (contradicted_lines derivations)
+
+-- for every project that is read, where no call failed and memory sufficed: it is told that the project is consistent, where no round
+-- of the chase holds a clash; what contradicts it is written, where some round does
+abbrev pub Checks : List (List ℕ) → Files → (faults faults' written written' reported reported' : ℕ) → (out out' report report' : Option (List ℕ)) → Status → Type 0
+Checks words files faults faults' written written' reported reported' out out' report report' result =
+    (p : List ℕ) (project : Project) (tables : List Loaded) → words ≡ codes "check" ∷ p ∷ [] → IsReadProject files p project tables
+    → IsQuiet faults faults' written written' reported reported' → result ≢ status.NoMemory
+    → (IsConsistentProject project tables → TellsConsistency out out' report report' result)
+    × ((IsConsistentProject project tables → ⊥) → WritesContradictions project tables out out' report report' result)
+
+-- the text of the file is that of these derivations, by the names of the project's mappings
+pub record AreReadDerivations (files : Files) (project : Project) (d : List ℕ) (ds : List Derivation) : Type 0 where
+  pub bytes : List ℕ
+  pub held : IsHeld files d bytes
+  pub utf8 : is_utf8 bytes ≡ true
+  pub read : derivations_of (mapping_names project) bytes ≡ Ok ds
+
+-- all of the derivations are accepted, and their count was reported
+pub record TellsAccepted (ds : List Derivation) (out out' report report' : Option (List ℕ)) (result : Status) : Type 0 where
+  pub done : result ≡ status.Done
+  pub unwritten : Keeps out out'
+  pub reported : Appends report report' (named_line (codes "accepted ") (decimal (length ds)) (codes "\n"))
+
+-- one is not accepted, and the number of the first was reported, counted from 1
+pub record TellsRefused (project : Project) (tables : List Loaded) (ds : List Derivation) (out out' report report' : Option (List ℕ)) (result : Status) : Type 0 where
+  pub not_accepted : result ≡ status.NotAccepted
+  pub unwritten : Keeps out out'
+  pub before : List Derivation
+  pub first : Derivation
+  pub behind : List Derivation
+  pub parts : ds ≡ before ++ first ∷ behind
+  pub accepted : AreAccepted project tables before
+  pub refused : IsAccepted (tbox project) project.sources.mappings tables first → ⊥
+  pub reported : Appends report report' (named_line (codes "not accepted: ") (decimal (length (first ∷ before))) (codes "\n"))
+
+-- for every project and derivations that are read, where no call failed and memory sufficed: all are accepted, or the first is told that is not
+abbrev pub Verifies : List (List ℕ) → Files → (faults faults' written written' reported reported' : ℕ) → (out out' report report' : Option (List ℕ)) → Status → Type 0
+Verifies words files faults faults' written written' reported reported' out out' report report' result =
+    (p d : List ℕ) (project : Project) (tables : List Loaded) (ds : List Derivation) → words ≡ codes "verify" ∷ p ∷ d ∷ [] → IsReadProject files p project tables → AreReadDerivations files project d ds
+    → IsQuiet faults faults' written written' reported reported' → result ≢ status.NoMemory
+    → (AreAccepted project tables ds → TellsAccepted ds out out' report report' result)
+    × ((AreAccepted project tables ds → ⊥) → TellsRefused project tables ds out out' report report' result)
+
+-- the certain answers were written in increasing order, one line for each, and their count was reported
+pub record WritesAnswers (project : Project) (tables : List Loaded) (q : Query) (out out' report report' : Option (List ℕ)) (result : Status) : Type 0 where
+  pub done : result ≡ status.Done
+  pub tuples : List (List Term)
+  pub listed : IsListOf tuple_cmp (certain project tables q) tuples
+  pub written : Appends out out' (answers_text tuples)
+  pub reported : Appends report report' (answers_report tuples)
+
+-- for every project that is read and each query that can be asked by its name, where no call failed and memory sufficed: its certain
+-- answers, whether the project is consistent or not; the limit, where the query has too many rewritings
+abbrev pub Answers : List (List ℕ) → Files → (faults faults' written written' reported reported' : ℕ) → (out out' report report' : Option (List ℕ)) → Status → Type 0
+Answers words files faults faults' written written' reported reported' out out' report report' result =
+    (p name : List ℕ) (project : Project) (tables : List Loaded) (q : Query) → words ≡ codes "answer" ∷ p ∷ name ∷ [] → IsReadProject files p project tables → query_named project.noted.notes name ≡ Some q
+    → IsQuiet faults faults' written written' reported reported' → result ≢ status.NoMemory
+    → ((IsTooWideToAnswer project q → ⊥) → WritesAnswers project tables q out out' report report' result)
+    × (IsTooWideToAnswer project q → TellsWidth out out' report report' result)
+
+-- the text of the file is that of the project; its tables are not asked for
+pub record IsProjectOf (files : Files) (p : List ℕ) (project : Project) : Type 0 where
+  pub bytes : List ℕ
+  pub held : IsHeld files p bytes
+  pub read : read_project bytes ≡ Ok project
+
+-- queries were written, and their count was reported: those of the reach, in its order, for which no other stands. Over every known
+-- list of facts they give exactly the certain answers, and none of them maps into another
+pub record WritesRewriting (project : Project) (name : List ℕ) (q : Query) (out out' report report' : Option (List ℕ)) (result : Status) : Type 0 where
+  pub done : result ≡ status.Done
+  pub reached : List Query
+  pub listed : IsListOf query_cmp (Reach (tbox project).axioms q) reached
+  pub queries : List Query
+  pub kept : AreKept reached queries
+  pub answers : AnswerAs project q queries
+  pub minimal : NoneMaps queries
+  pub written : Appends out out' (printed project name queries)
+  pub reported : Appends report report' (queries_report queries)
+
+-- for every project, whatever its tables are, and each query that can be asked by its name, where no call failed and memory
+-- sufficed: its rewriting; the limit, where the query has too many
+abbrev pub Rewrites : List (List ℕ) → Files → (faults faults' written written' reported reported' : ℕ) → (out out' report report' : Option (List ℕ)) → Status → Type 0
+Rewrites words files faults faults' written written' reported reported' out out' report report' result =
+    (p name : List ℕ) (project : Project) (q : Query) → words ≡ codes "rewrite" ∷ p ∷ name ∷ [] → IsProjectOf files p project → query_named project.noted.notes name ≡ Some q
+    → IsQuiet faults faults' written written' reported reported' → result ≢ status.NoMemory
+    → ((IsTooWideToRewrite project q → ⊥) → WritesRewriting project name q out out' report report' result)
+    × (IsTooWideToRewrite project q → TellsWidth out out' report report' result)
+
+-- the text was written, and nothing was reported
+pub record WritesAlone (text : List ℕ) (out out' report report' : Option (List ℕ)) (result : Status) : Type 0 where
+  pub done : result ≡ status.Done
+  pub written : Appends out out' text
+  pub unreported : Keeps report report'
+
+-- `extract project.txt` over these files comes to an end: the first line of its report was written where it is done, else its report was reported
+pub record Summarises (files : Files) (out out' report report' : Option (List ℕ)) (result : Status) : Type 0 where
+  pub extraction : Ending
+  pub first : IsFirstEnd (codes "extract" ∷ codes "project.txt" ∷ []) files extraction
+  pub same : result ≡ extraction.status
+  pub done : result ≡ status.Done → Appends out out' (first_line extraction.report) × Keeps report report'
+  pub other : result ≢ status.Done → Keeps out out' × Appends report report' extraction.report
+
+-- the first line of the report of the one log was written, and nothing was reported
+pub record WritesSummary (project : Project) (tables : List Loaded) (out out' report report' : Option (List ℕ)) (result : Status) : Type 0 where
+  pub text : List ℕ
+  pub said : List ℕ
+  pub extracted : IsExtracted project tables text said
+  pub alone : WritesAlone (first_line said) out out' report report' result
+
+-- for every number of documents from 1 to 100,000, where no write failed and memory sufficed: each file of the made project; for
+-- `summary` what `extract` comes to over those files, which for an accepted project without contradictions is the first line of the
+-- report of its one log. The shelf is not spoken of
+abbrev pub Makes : List (List ℕ) → (written written' reported reported' : ℕ) → (out out' report report' : Option (List ℕ)) → Status → Type 0
+Makes words written written' reported reported' out out' report report' result =
+    (n : ℕ) (name : List ℕ) → 1 ≤ n → n ≤ 100_000 → words ≡ codes "make" ∷ decimal n ∷ name ∷ []
+    → (Rose written written' → ⊥) → (Rose reported reported' → ⊥) → result ≢ status.NoMemory
+    → ((text : List ℕ) → file_of n name ≡ Some text → WritesAlone text out out' report report' result)
+    × (name ≡ codes "summary" → Summarises (made_files n) out out' report report' result)
+    × ((project : Project) (tables : List Loaded) → name ≡ codes "summary" → IsAcceptedProject (made_files n) (codes "project.txt") project tables
+    → IsConsistentProject project tables → (IsWide project → ⊥) → WritesSummary project tables out out' report report' result)

@@ -1,14 +1,12 @@
 -- How the job of a run ends, once all is read.
 use Rattle.std.specs.Prelude.{◌≡◌, ◌≢◌, ◌⊎◌, ℕ, unwrap_or, List, [], ◌∷◌, ◌++◌, length, codes, decimal, Option, Some, None, Result, Ok, Err}
-use Rattle.std.specs.List.{flat_map}
-use Rattle.vocabulary.specs.Lists.{In, IsListOf}
+use Rattle.vocabulary.specs.Lists.{IsListOf}
 use Rattle.line_lexer.specs.Faults.{name_of}
 use Rattle.line_lexer.specs.declared.fault.Counted.TheVariants.{Rewriting as RewritingCount}
 use Rattle.source_tables.specs.Tables.{Loaded}
 use Rattle.queries.specs.declared.query.Query.{Query}
 use Rattle.queries.specs.Order.{query_cmp}
 use Rattle.perfect_rewriting.specs.Reach.{Reach}
-use Rattle.perfect_rewriting.specs.Rewriting.{GiveCertain}
 use Rattle.query_subsumption.specs.Kept.{NoneMaps}
 use Rattle.query_subsumption.specs.Subsumption.{AreKept}
 use Rattle.annotation_language.specs.Named.{variables_named}
@@ -22,8 +20,8 @@ use Rattle.project_language.specs.declared.project.Project.{Project}
 use Rattle.onprom_core.specs.declared.status.Status.{Status}
 use Rattle.onprom_core.specs.declared.status.Status.TheVariants as status
 use Rattle.onprom_core.specs.declared.halt.Stopped.{Stopped}
-use Rattle.onprom_core.specs.Lines.{limit_line}
-use Rattle.onprom_core.specs.Meaning.{AreContradictions, IsConsistentProject, IsExtracted, IsTooWideToAnswer, IsTooWideToRewrite, IsWide, certain, spelled, tbox}
+use Rattle.onprom_core.specs.Lines.{limit_line, named_line}
+use Rattle.onprom_core.specs.Meaning.{AnswerAs, AreAccepted, AreContradictions, IsConsistentProject, IsExtracted, IsTooWideToAnswer, IsTooWideToRewrite, IsWide, certain, contradicted_lines, spelled, tbox}
 use Rattle.onprom_core.specs.Walk.{Job, Extracting, Checking, Verifying, Answering, Rewriting, Making, extract_step}
 
 -- a status with what is written for it
@@ -40,31 +38,41 @@ stopped_end stopped = record { status = stopped.status; out = []; report = stopp
 abbrev pub wide_end : Ending
 wide_end = record { status = status.Limit; out = []; report = limit_line (name_of RewritingCount) }
 
+-- the contradictions are reported, and no log is written
+abbrev pub clash_end : Project → List Derivation → Ending
+clash_end project ds = record { status = status.Conflict; out = []; report = spelled project ds }
+
 -- `extract`: consistency first, then the queries
 pub data EndsExtraction (project : Project) (tables : List Loaded) (e : Ending) : Type 0 where
   extracted : IsConsistentProject project tables → (IsWide project → ⊥) → e.status ≡ status.Done → IsExtracted project tables e.out e.report → EndsExtraction project tables e
   too_wide : IsConsistentProject project tables → IsWide project → e ≡ wide_end → EndsExtraction project tables e
-  contradicted : (IsConsistentProject project tables → ⊥) → (ds : List Derivation) → AreContradictions project tables ds → e ≡ record { status = status.Conflict; out = []; report = spelled project ds } → EndsExtraction project tables e
+  contradicted : (IsConsistentProject project tables → ⊥) → (ds : List Derivation) → AreContradictions project tables ds → e ≡ clash_end project ds → EndsExtraction project tables e
 
--- `contradicted C` for each
-abbrev pub contradicted_lines : List Derivation → List ℕ
-contradicted_lines ds = flat_map (λ d. codes "contradicted " ++ decimal d.constraint ++ codes "\n") ds
+abbrev pub consistent_end : Ending
+consistent_end = record { status = status.Done; out = []; report = codes "consistent\n" }
+
+-- the derivations are written, and the numbers of their constraints are reported
+abbrev pub contradicted_end : Project → List Derivation → Ending
+contradicted_end project ds = record { status = status.Conflict; out = spelled project ds; report = contradicted_lines ds }
 
 -- `check`
 pub data EndsCheck (project : Project) (tables : List Loaded) (e : Ending) : Type 0 where
-  consistent : IsConsistentProject project tables → e ≡ record { status = status.Done; out = []; report = codes "consistent\n" } → EndsCheck project tables e
-  contradicted : (IsConsistentProject project tables → ⊥) → (ds : List Derivation) → AreContradictions project tables ds → e ≡ record { status = status.Conflict; out = spelled project ds; report = contradicted_lines ds } → EndsCheck project tables e
+  consistent : IsConsistentProject project tables → e ≡ consistent_end → EndsCheck project tables e
+  contradicted : (IsConsistentProject project tables → ⊥) → (ds : List Derivation) → AreContradictions project tables ds → e ≡ contradicted_end project ds → EndsCheck project tables e
 
--- each of these derivations is accepted
-abbrev pub AreAccepted : Project → List Loaded → List Derivation → Type 0
-AreAccepted project tables ds = (d : Derivation) → In d ds → IsAccepted (tbox project) project.sources.mappings tables d
+abbrev pub accepted_end : List Derivation → Ending
+accepted_end ds = record { status = status.Done; out = []; report = named_line (codes "accepted ") (decimal (length ds)) (codes "\n") }
+
+-- the derivation of this number is not accepted
+abbrev pub refused_end : ℕ → Ending
+refused_end number = record { status = status.NotAccepted; out = []; report = named_line (codes "not accepted: ") (decimal number) (codes "\n") }
 
 -- `verify`: all are accepted, or the first that is not is told
 pub data EndsVerification (project : Project) (tables : List Loaded) (ds : List Derivation) (e : Ending) : Type 0 where
-  accepted : AreAccepted project tables ds → e ≡ record { status = status.Done; out = []; report = codes "accepted " ++ decimal (length ds) ++ codes "\n" } → EndsVerification project tables ds e
+  accepted : AreAccepted project tables ds → e ≡ accepted_end ds → EndsVerification project tables ds e
   refused : (before : List Derivation) (d : Derivation) (behind : List Derivation) → ds ≡ before ++ d ∷ behind → AreAccepted project tables before
       → (IsAccepted (tbox project) project.sources.mappings tables d → ⊥)
-      → e ≡ record { status = status.NotAccepted; out = []; report = codes "not accepted: " ++ decimal (length (d ∷ before)) ++ codes "\n" } → EndsVerification project tables ds e
+      → e ≡ refused_end (length (d ∷ before)) → EndsVerification project tables ds e
 
 -- `answer`: consistency is not tested
 pub data EndsAnswering (project : Project) (tables : List Loaded) (q : Query) (e : Ending) : Type 0 where
@@ -78,7 +86,7 @@ printed project name qs = queries_text (unwrap_or (variables_named project.noted
 -- `rewrite`: of the reach in its order, the queries that no other stands for; over known facts they give the certain answers, and none of them maps into another
 pub data EndsRewriting (project : Project) (name : List ℕ) (q : Query) (e : Ending) : Type 0 where
   rewritten : (IsTooWideToRewrite project q → ⊥) → (reached kept : List Query) → IsListOf query_cmp (Reach (tbox project).axioms q) reached → AreKept reached kept
-      → GiveCertain (tbox project).axioms q kept → NoneMaps kept
+      → AnswerAs project q kept → NoneMaps kept
       → e ≡ record { status = status.Done; out = printed project name kept; report = queries_report kept } → EndsRewriting project name q e
   too_wide : IsTooWideToRewrite project q → e ≡ wide_end → EndsRewriting project name q e
 

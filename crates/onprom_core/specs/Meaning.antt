@@ -1,20 +1,19 @@
 -- What a project and its tables mean: axioms and constraints, facts, certain answers, consistency, the log and the contradictions.
-use Rattle.std.specs.Prelude.{◌≡◌, ℕ, ◌≤◌, List, length, map, Some}
-use Rattle.std.specs.List.Sorted.{IsStrictlySortedBy}
-use Rattle.std.specs.Ordering.{nat_cmp}
-use Rattle.vocabulary.specs.Lists.{In, item}
+use Rattle.std.specs.Prelude.{◌≡◌, ◌↔◌, ℕ, List, length, map, codes, decimal}
+use Rattle.std.specs.List.{flat_map}
+use Rattle.vocabulary.specs.Lists.{In}
 use Rattle.vocabulary.specs.declared.term.Fact.{Fact}
-use Rattle.line_lexer.specs.Faults.{limit_of}
-use Rattle.line_lexer.specs.declared.fault.Counted.TheVariants.{Steps}
-use Rattle.dllite_axioms.specs.declared.axioms.Constraint.{Constraint}
+use Rattle.vocabulary.specs.declared.term.Term.{Term}
 use Rattle.dllite_axioms.specs.declared.axioms.Tbox.{Tbox}
-use Rattle.dllite_axioms.specs.Clashes.{IsContradicted, IsConsistent}
+use Rattle.dllite_axioms.specs.Chase.{AreKnown}
+use Rattle.dllite_axioms.specs.Clashes.{IsConsistent}
 use Rattle.uml_model.specs.Axioms.{axioms_of, constraints_of}
 use Rattle.source_tables.specs.Tables.{Loaded}
 use Rattle.mapping_facts.specs.Facts.{mapped_facts}
 use Rattle.queries.specs.declared.query.Query.{Query}
 use Rattle.certain_semantics.specs.Certain.{IsCertain}
 use Rattle.perfect_rewriting.specs.Rewriting.{IsTooWide}
+use Rattle.query_subsumption.specs.Kept.{HasImage}
 use Rattle.xes_writer.specs.declared.log.Log.{Log}
 use Rattle.xes_writer.specs.Xes.{xes_text}
 use Rattle.log_assembly.specs.Asked.{Certain}
@@ -23,7 +22,9 @@ use Rattle.log_assembly.specs.TheLog.{IsLog}
 use Rattle.log_assembly.specs.TheReport.{IsReport}
 use Rattle.conflict_checker.specs.declared.derivation.Derivation.{Derivation}
 use Rattle.conflict_checker.specs.Derivations.{IsAccepted}
+use Rattle.consistency_check.specs.Contradictions.{AreContradictions as ContradictionsOf}
 use Rattle.derivation_text.specs.Writing.{derivations_text}
+use Rattle.onprom_core.specs.Lines.{named_line}
 use Rattle.project_language.specs.declared.project.Project.{Project}
 
 -- what the model lines mean
@@ -50,6 +51,10 @@ IsTooWideToAnswer project q = IsTooWide (tbox project).axioms q
 abbrev pub IsTooWideToRewrite : Project → Query → Type 0
 IsTooWideToRewrite project q = IsTooWide (tbox project).axioms q
 
+-- over every known list of facts, the head images of these queries are exactly the certain answers of the query
+abbrev pub AnswerAs : Project → Query → List Query → Type 0
+AnswerAs project q qs = (facts : List Fact) → AreKnown facts → (tuple : List Term) → IsCertain (tbox project).axioms facts q tuple ↔ HasImage facts qs tuple
+
 -- one of the queries that a log asks has too many
 abbrev pub IsWide : Project → Type 0
 IsWide project = (q : Query) × Asks project.noted.notes q × IsTooWideToAnswer project q
@@ -62,12 +67,8 @@ pub record IsExtracted (project : Project) (tables : List Loaded) (out report : 
   pub reported : IsReport (certain project tables) project.noted.notes log report
 
 -- one accepted derivation for each contradicted constraint and for no other, in the order of the constraints
-pub record AreContradictions (project : Project) (tables : List Loaded) (ds : List Derivation) : Type 0 where
-  pub accepted : (d : Derivation) → In d ds → IsAccepted (tbox project) project.sources.mappings tables d
-  pub short : (d : Derivation) → In d ds → length d.steps ≤ limit_of Steps
-  pub each_once : IsStrictlySortedBy nat_cmp (map (λ d. d.constraint) ds)
-  pub all : (n : ℕ) (c : Constraint) → item (tbox project).constraints n ≡ Some c → IsContradicted (tbox project).axioms (facts project tables) c → In n (map (λ d. d.constraint) ds)
-  pub no_other : (d : Derivation) → In d ds → (c : Constraint) × (item (tbox project).constraints d.constraint ≡ Some c) × IsContradicted (tbox project).axioms (facts project tables) c
+abbrev pub AreContradictions : Project → List Loaded → List Derivation → Type 0
+AreContradictions project tables ds = ContradictionsOf (tbox project) project.sources.mappings tables (length (tbox project).constraints) ds
 
 -- the names of the mappings
 abbrev pub mapping_names : Project → List (List ℕ)
@@ -76,3 +77,11 @@ mapping_names project = map (λ m. m.name) project.sources.mappings
 -- the text of derivations, by the names of the project's mappings
 abbrev pub spelled : Project → List Derivation → List ℕ
 spelled project ds = derivations_text (mapping_names project) ds
+
+-- `contradicted C` for each
+abbrev pub contradicted_lines : List Derivation → List ℕ
+contradicted_lines ds = flat_map (λ d. named_line (codes "contradicted ") (decimal d.constraint) (codes "\n")) ds
+
+-- each of these derivations is accepted
+abbrev pub AreAccepted : Project → List Loaded → List Derivation → Type 0
+AreAccepted project tables ds = (d : Derivation) → In d ds → IsAccepted (tbox project) project.sources.mappings tables d

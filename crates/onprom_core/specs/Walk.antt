@@ -23,7 +23,7 @@ use Rattle.project_language.specs.Project.{bad_line, read_project}
 use Rattle.onprom_core.specs.declared.status.Status.{Status}
 use Rattle.onprom_core.specs.declared.status.Status.TheVariants as status
 use Rattle.onprom_core.specs.declared.halt.Stopped.{Stopped}
-use Rattle.onprom_core.specs.Commands.{Command, Extract, Check, Verify, Answer, Rewrite, Make, command_of, is_built}
+use Rattle.onprom_core.specs.Commands.{Command, Extract, Check, Verify, Answer, Rewrite, Make, command_of}
 use Rattle.onprom_core.specs.Lines.{usage_line, absent_line, limit_line, line_refused, query_refused, table_refused}
 use Rattle.onprom_core.specs.Meaning.{mapping_names}
 use Rattle.onprom_core.specs.Steps.{Step, goes, stops, ◌>>=◌}
@@ -37,14 +37,13 @@ stop s l = stops (record { status = s; line = l })
 abbrev pub stop_usage : Step Command
 stop_usage = stop status.Usage usage_line
 
--- a command that is built
-abbrev pub built_step : Option Command → Step Command
-built_step None = stop_usage
-built_step (Some command) = if is_built command then goes command else stop_usage
+abbrev pub named_step : Option Command → Step Command
+named_step None = stop_usage
+named_step (Some command) = goes command
 
 -- the command that the words name
 abbrev pub command_step : List (List ℕ) → Step Command
-command_step words = built_step (command_of words)
+command_step words = named_step (command_of words)
 
 -- a file as it was read
 abbrev pub held_step : List ℕ → Option (List ℕ) → Step (List ℕ)

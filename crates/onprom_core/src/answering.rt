@@ -1,5 +1,5 @@
 //! The job of `answer`.
-ghost use Rattle.std.specs.Prelude.{◌≡◌, IfOk};
+ghost use Rattle.std.specs.Prelude.{◌≡◌, false, IfOk};
 ghost use Rattle.answer_text.specs.Answers.{answers_report, answers_text};
 ghost use Rattle.annotation_language.specs.Askable.{IsAskable};
 ghost use Rattle.onprom_core.specs.Jobs.{EndsAnswering};
@@ -8,8 +8,8 @@ ghost use Rattle.onprom_core.specs.Rewritten.{done_with};
 ghost use Rattle.project_language.specs.Sound.{IsSound};
 
 use crate::Status;
-use crate::extraction::Output;
 use crate::lines::line_of;
+use crate::output::Output;
 use crate::width::too_wide;
 use answer_text::{answers_report, answers_text};
 use certain_answers::answers;
@@ -31,7 +31,7 @@ pub(crate) fn answering(
     requires sound { IsSound project.now }
     requires askable { IsAskable query.now }
     ensures ends { IfOk result (λ o. EndsAnswering project.now tables.now query.now (ended o)) }
-    ensures well { IfOk result EndsWell }
+    ensures well { IfOk result (EndsWell false) }
 {
     let tbox = axioms_of(alloc, &project.model)?;
     match answers(alloc, &tbox, project.sources.mappings(), tables, query) {
@@ -43,7 +43,7 @@ pub(crate) fn answering(
 
 fn answered(alloc: Global, tuples: &[List<Term>]) -> Result<Output, AllocError>
     ensures end { IfOk result (λ o. ended o ≡ done_with (answers_text tuples.now) (answers_report tuples.now)) }
-    ensures well { IfOk result EndsWell }
+    ensures well { IfOk result (EndsWell false) }
 {
     let text = answers_text(alloc, tuples)?;
     let said = answers_report(alloc, tuples)?;

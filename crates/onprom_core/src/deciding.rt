@@ -1,14 +1,15 @@
 //! Deciding how a run ends, before anything is written.
-ghost use Rattle.std.specs.Prelude.{◌≡◌, ◌≢◌, [], IfOk, IfSome, IsTrue};
+ghost use Rattle.std.specs.Prelude.{◌≡◌, ◌≢◌, false, true, [], IfOk, IfSome, IsTrue};
 ghost use Rattle.onprom_core.specs.Causes.{CountsEnd, IsWhole, SaysLine};
-ghost use Rattle.onprom_core.specs.Delivery.{ComesToJob, IsDecided};
+ghost use Rattle.onprom_core.specs.Commands.{is_check, is_make};
+ghost use Rattle.onprom_core.specs.Delivery.{ComesToJob, IsDecided, IsFirstEnd};
 ghost use Rattle.onprom_core.specs.Shown.{shown};
 ghost use Rattle.onprom_core.specs.Walk.{IsNoCommand};
 
 use crate::Status;
+use crate::commands::work;
 use crate::halt::Halt;
 use crate::lines::named_line;
-use crate::reading::work;
 use outside::{Bytes, Shelf, Words};
 use std::alloc::{AllocError, Global};
 
@@ -34,11 +35,13 @@ pub(crate) fn decide<S: Shelf>(
     ensures no_command { IsNoCommand words.now → IfOk result (λ d. d.status ≡ Status.Usage) }
     ensures whole { IfOk result (λ d. IsWhole d.status) }
     ensures line { IfOk result (λ d. SaysLine d.status d.line) }
-    ensures silent { IfOk result (λ d. d.status ≢ Status.Done → d.text.items ≡ []) }
+    ensures silent { IfOk result (λ d. d.status ≢ Status.Done → (d.status ≡ Status.Conflict → is_check words.now ≡ false) → d.text.items ≡ []) }
     ensures last { S.faults shelf.new ≢ S.faults shelf.old → IsTrue (S.failed shelf.new) }
     ensures fault_last { IfOk result (λ d. d.status ≡ Status.ReadFault → IsTrue (S.failed shelf.new)) }
     ensures counts { IfOk result (λ d. CountsEnd (S.faults shelf.old) (S.faults shelf.new)
         (S.absences shelf.old) (S.absences shelf.new) d.status) }
+    ensures made { IfOk result (λ d. is_make words.now ≡ true → IsFirstEnd words.now [] (shown d)) }
+    ensures unused { is_make words.now ≡ true → shelf.new ≡ shelf.old }
 {
     match work(alloc, words, shelf) {
         Ok(output) => Ok(Decided {

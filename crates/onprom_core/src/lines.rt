@@ -1,7 +1,7 @@
 //! The lines that a run stops with.
 ghost use Rattle.std.specs.Prelude.{◌≡◌, ◌++◌, IfOk, OnOk, codes, decimal};
 ghost use Rattle.line_lexer.specs.Faults.{name_of};
-ghost use Rattle.onprom_core.specs.Lines.{cell_refused, column_name, column_refused, limit_line, line_refused, named_line, row_refused, rows_refused, table_refused, usage_line};
+ghost use Rattle.onprom_core.specs.Lines.{cell_refused, column_name, column_refused, limit_line, line_refused, named_line, query_refused, row_refused, rows_refused, table_refused, usage_line};
 
 use line_lexer::Counted;
 use outside::Bytes;
@@ -60,6 +60,14 @@ fn refused(alloc: Global, file: &str) -> Result<Bytes, AllocError>
     Ok(bytes)
 }
 
+/// A line with a number behind its front.
+pub(crate) fn numbered_line(alloc: Global, front: &[u8], number: u64) -> Result<Bytes, AllocError>
+    ensures { IfOk result (λ bytes. bytes ≡ named_line front.now (decimal number) (codes "\n")) }
+{
+    let digits = number.to_string(alloc)?;
+    named_line(alloc, front, digits.as_bytes(), b"\n")
+}
+
 // A word and a number, with spaces before each.
 fn push_number(alloc: Global, bytes: &mut Bytes, word: &[u8], number: u32) -> Result<(), AllocError>
     ensures { OnOk result (bytes.new ≡ bytes.old ++ word.now ++ decimal number) }
@@ -94,6 +102,14 @@ pub(crate) fn line_refused(
     push_number(alloc, &mut bytes, b" line ", line)?;
     push_kind(&mut bytes, kind)?;
     Ok(bytes)
+}
+
+/// The name of a query that is not there.
+#[tactic(auto, unfolding(crate::specs::Lines::query_refused))]
+pub(crate) fn query_refused(alloc: Global, name: &str) -> Result<Bytes, AllocError>
+    ensures { IfOk result (λ bytes. bytes ≡ query_refused name.now) }
+{
+    named_line(alloc, b"refused: query ", name.as_bytes(), b": Unknown\n")
 }
 
 #[tactic(auto, unfolding(crate::specs::Lines::row_refused))]

@@ -1,103 +1,37 @@
-//! Reading what a run needs, and doing its job.
-ghost use Rattle.std.specs.Prelude.{◌≡◌, ◌+◌, ◌≤◌, IfSome, IfOk, IfErr, IsErr, length};
-ghost use Rattle.onprom_core.specs.Causes.{CountsReading, IsLocal, SaysUsage, SaysUsageAtMost};
-ghost use Rattle.onprom_core.specs.Commands.{Extract, is_extract};
-ghost use Rattle.onprom_core.specs.Outputs.{Adds, EndsWell, Passes, Refuses, Works, rest_step};
+//! Reading what a run needs.
+ghost use Rattle.std.specs.Prelude.{◌≡◌, ◌+◌, ◌≤◌, IfSome, IfOk, IfErr, length, map};
+ghost use Rattle.onprom_core.specs.Causes.{CountsReading, IsLocal, SaysUsage};
+ghost use Rattle.onprom_core.specs.Outputs.{Adds, Passes, Refuses};
 ghost use Rattle.onprom_core.specs.Steps.{Gives};
-ghost use Rattle.onprom_core.specs.Walk.{IsNoCommand, command_step, complete_step, extract_step, file_step, one_table, project_step, read_step, table_step, tables_step, together_step, walk};
+ghost use Rattle.onprom_core.specs.Walk.{complete_step, file_step, one_table, project_step, read_step, spell_step, spelled_step, table_step, tables_step, together_step};
 ghost use Rattle.jiff_core.specs.Calendar.{IsWithin};
 ghost use Rattle.line_lexer.specs.Faults.{limit_of};
 ghost use Rattle.line_lexer.specs.declared.fault.Counted.TheVariants.{File, TablesTogether};
-ghost use Rattle.project_language.specs.Project.{read_project};
+ghost use Rattle.derivation_text.specs.Reading.{derivations_of};
+ghost use Rattle.onprom_core.specs.Meaning.{mapping_names};
+ghost use Rattle.project_language.specs.Project.{bad_line, read_project};
 ghost use Rattle.project_language.specs.Sound.{IsSound};
 ghost use Rattle.std.specs.List.{All};
+ghost use Rattle.std.specs.Str.Lossy.{utf8_valid_len};
 
 use crate::Status;
-use crate::extraction::{Output, extraction};
 use crate::halt::{Halt, Stopped};
-use crate::lines::{limit_line, line_of, line_refused, named_line, table_refused, usage_line};
+use crate::lines::{limit_line, line_of, line_refused, named_line, table_refused};
 use annotation_language::complete;
+use conflict_checker::Derivation;
+use derivation_text::{DerivationFault, read};
 use line_lexer::{Counted, LineFault};
-use outside::{Bytes, FileFault, Shelf, Words, read_file};
+use outside::{Bytes, FileFault, Shelf, read_file};
 use project_language::{Project, ProjectFault, read_project};
 use source_tables::{Table, TableDecl, TableFault, load};
 use std::alloc::{AllocError, Global};
 use vocabulary::List;
 
-/// Reads up to the job, and does it.
-#[tactic(auto, unfolding(crate::specs::Walk::walk))]
-pub(crate) fn work<S: Shelf>(alloc: Global, words: &Words, shelf: &mut S) -> Result<Output, Halt>
-    ensures held { S.held shelf.new ≡ S.held shelf.old }
-    ensures told { IfSome (S.held shelf.old) (λ files. Works result (walk words.now files)) }
-    ensures well { IfOk result EndsWell }
-    ensures usage { IfErr result (λ h. SaysUsage h → IsNoCommand words.now) }
-    ensures no_command { IsNoCommand words.now → IfErr result SaysUsageAtMost × IsErr result }
-    ensures counts { CountsReading (S.faults shelf.old) (S.faults shelf.new)
-        (S.absences shelf.old) (S.absences shelf.new) (S.failed shelf.new) result }
-{
-    let name = project_named(alloc, words)?;
-    extract(alloc, shelf, name)
-}
-
-fn is_extract(words: &Words) -> bool
-    ensures { result ≡ is_extract words.now }
-{
-    words.len() == 2 && words.get(0) == "extract"
-}
-
-// The project that the words name.
-fn project_named(alloc: Global, words: &Words) -> Result<&str, Halt>
-    ensures told { Gives (λ name. Extract name.now) result (command_step words.now) }
-    ensures usage { IfErr result SaysUsageAtMost }
-    ensures local { IfErr result IsLocal }
-{
-    if is_extract(words) {
-        Ok(words.get(1))
-    } else {
-        Err(Halt::Stopped(Stopped {
-            status: Status::Usage,
-            line: usage_line(alloc)?,
-        }))
-    }
-}
-
-// Reads the project and its tables, and makes the log.
-#[tactic(auto, unfolding(crate::specs::Walk::extract_step))]
-fn extract<S: Shelf>(alloc: Global, shelf: &mut S, name: &str) -> Result<Output, Halt>
-    ensures held { S.held shelf.new ≡ S.held shelf.old }
-    ensures told { IfSome (S.held shelf.old) (λ files. Works result (extract_step files name.now)) }
-    ensures well { IfOk result EndsWell }
-    ensures usage { IfErr result (λ h. SaysUsage h → ⊥) }
-    ensures counts { CountsReading (S.faults shelf.old) (S.faults shelf.new)
-        (S.absences shelf.old) (S.absences shelf.new) (S.failed shelf.new) result }
-{
-    let project = project_read(alloc, shelf, name)?;
-    extract_from(alloc, shelf, name, &project)
-}
-
-// Reads the tables of the project, and makes the log.
-#[tactic(auto, unfolding(crate::specs::Outputs::rest_step))]
-fn extract_from<S: Shelf>(
+pub(crate) fn project_read<S: Shelf>(
     alloc: Global,
     shelf: &mut S,
     name: &str,
-    project: &Project,
-) -> Result<Output, Halt>
-    requires { IsSound project.now }
-    ensures held { S.held shelf.new ≡ S.held shelf.old }
-    ensures told { IfSome (S.held shelf.old) (λ files. Works result (rest_step files name.now project.now)) }
-    ensures well { IfOk result EndsWell }
-    ensures usage { IfErr result (λ h. SaysUsage h → ⊥) }
-    ensures counts { CountsReading (S.faults shelf.old) (S.faults shelf.new)
-        (S.absences shelf.old) (S.absences shelf.new) (S.failed shelf.new) result }
-{
-    completed(alloc, name, project)?;
-    let tables = tables_read(alloc, shelf, project.sources.tables())?;
-    let output = extraction(alloc, project, tables.items())?;
-    Ok(output)
-}
-
-fn project_read<S: Shelf>(alloc: Global, shelf: &mut S, name: &str) -> Result<Project, Halt>
+) -> Result<Project, Halt>
     ensures held { S.held shelf.new ≡ S.held shelf.old }
     ensures told { IfSome (S.held shelf.old) (λ files. Gives (λ p. p) result (project_step files name.now)) }
     ensures sound { IfOk result IsSound }
@@ -130,7 +64,7 @@ fn project_of(alloc: Global, name: &str, bytes: &[u8]) -> Result<Project, Halt>
     }
 }
 
-fn refuse<T>(line: Bytes) -> Result<T, Halt>
+pub(crate) fn refuse<T>(line: Bytes) -> Result<T, Halt>
     ensures { Refuses line result }
 {
     Err(Halt::Stopped(Stopped {
@@ -148,7 +82,7 @@ fn passed<T>(alloc: Global, what: Counted) -> Result<T, Halt>
     }))
 }
 
-fn completed(alloc: Global, name: &str, project: &Project) -> Result<(), Halt>
+pub(crate) fn completed(alloc: Global, name: &str, project: &Project) -> Result<(), Halt>
     ensures told { Gives (λ done. project.now) result (complete_step name.now project.now) }
     ensures usage { IfErr result (λ h. SaysUsage h → ⊥) }
     ensures local { IfErr result IsLocal }
@@ -159,7 +93,7 @@ fn completed(alloc: Global, name: &str, project: &Project) -> Result<(), Halt>
     }
 }
 
-fn tables_read<S: Shelf>(
+pub(crate) fn tables_read<S: Shelf>(
     alloc: Global,
     shelf: &mut S,
     decls: &[TableDecl],
@@ -252,7 +186,7 @@ fn loaded(alloc: Global, decl: &TableDecl, bytes: &[u8]) -> Result<Table, Halt>
     }
 }
 
-fn read_named<S: Shelf>(alloc: Global, shelf: &mut S, name: &str) -> Result<Bytes, Halt>
+pub(crate) fn read_named<S: Shelf>(alloc: Global, shelf: &mut S, name: &str) -> Result<Bytes, Halt>
     ensures held { S.held shelf.new ≡ S.held shelf.old }
     ensures bound { IfOk result (λ bytes. length bytes ≤ limit_of File) }
     ensures told { IfSome (S.held shelf.old) (λ files. Gives (λ bytes. bytes) result (file_step files name.now)) }
@@ -270,4 +204,59 @@ fn read_named<S: Shelf>(alloc: Global, shelf: &mut S, name: &str) -> Result<Byte
         Err(FileFault::TooLong) => passed(alloc, Counted::File),
         Err(FileFault::NoMemory) => Err(Halt::NoMemory),
     }
+}
+
+/// The derivations that the bytes of the named file are, by the names of the project's mappings.
+pub(crate) fn spelled_in(
+    alloc: Global,
+    project: &Project,
+    name: &str,
+    bytes: &[u8],
+) -> Result<List<Derivation>, Halt>
+    requires sound { IsSound project.now }
+    requires short { length bytes.now ≤ limit_of File }
+    ensures told { Gives (λ ds. ds) result (spell_step project.now name.now bytes.now) }
+    ensures usage { IfErr result (λ h. SaysUsage h → ⊥) }
+    ensures local { IfErr result IsLocal }
+{
+    match str::from_utf8(bytes) {
+        Ok(text) => spelled(alloc, project, name, text),
+        Err(e) => {
+            let line = bad_line(bytes, e.valid_up_to());
+            refuse(line_refused(alloc, name, line, "NotUtf8")?)
+        }
+    }
+}
+
+fn spelled(
+    alloc: Global,
+    project: &Project,
+    name: &str,
+    text: &str,
+) -> Result<List<Derivation>, Halt>
+    requires sound { IsSound project.now }
+    requires short { length text.now ≤ limit_of File }
+    ensures told { Gives (λ ds. ds) result (spelled_step name.now (derivations_of (mapping_names project.now) text.now)) }
+    ensures usage { IfErr result (λ h. SaysUsage h → ⊥) }
+    ensures local { IfErr result IsLocal }
+{
+    match read(alloc, text, project.sources.mappings()) {
+        Ok(derivations) => Ok(derivations),
+        Err(DerivationFault::Syntax(line)) => refuse(line_refused(alloc, name, line, "Syntax")?),
+        Err(DerivationFault::Unknown(line)) => refuse(line_refused(alloc, name, line, "Unknown")?),
+        Err(DerivationFault::BadStep(line)) => refuse(line_refused(alloc, name, line, "BadStep")?),
+        Err(DerivationFault::TooLong) => passed(alloc, Counted::Steps),
+        Err(DerivationFault::NoMemory) => Err(Halt::NoMemory),
+    }
+}
+
+// The line of the byte at this place.
+fn bad_line(bytes: &[u8], at: usize) -> u32
+    requires short { length bytes.now ≤ limit_of File }
+    requires place { at ≡ utf8_valid_len bytes.now }
+    requires within { at ≤ length bytes.now }
+    ensures { result ≡ bad_line bytes.now }
+{
+    let feeds = bytes[..at].iter().filter(|b| **b == b'\n').count();
+    feeds as u32 + 1
 }

@@ -1,5 +1,5 @@
 //! The job of `rewrite`.
-ghost use Rattle.std.specs.Prelude.{◌≡◌, [], IfOk, unwrap_or};
+ghost use Rattle.std.specs.Prelude.{◌≡◌, false, [], IfOk, unwrap_or};
 ghost use Rattle.answer_text.specs.Queries.{queries_report};
 ghost use Rattle.annotation_language.specs.Askable.{IsAskable};
 ghost use Rattle.annotation_language.specs.Named.{variables_named};
@@ -8,8 +8,8 @@ ghost use Rattle.onprom_core.specs.Outputs.{EndsWell, ended};
 ghost use Rattle.onprom_core.specs.Rewritten.{PrintsKept, done_with};
 
 use crate::Status;
-use crate::extraction::Output;
 use crate::lines::line_of;
+use crate::output::Output;
 use crate::width::too_wide;
 use answer_text::{QueryNames, queries_report, queries_text};
 use perfect_rewriting::{RewriteFault, rewrite};
@@ -29,7 +29,7 @@ pub(crate) fn rewriting(
 ) -> Result<Output, AllocError>
     requires { IsAskable query.now }
     ensures ends { IfOk result (λ o. EndsRewriting project.now name.now query.now (ended o)) }
-    ensures well { IfOk result EndsWell }
+    ensures well { IfOk result (EndsWell false) }
 {
     let tbox = axioms_of(alloc, &project.model)?;
     match rewrite(alloc, &tbox, query) {
@@ -46,7 +46,7 @@ fn rewritten(
     members: List<Query>,
 ) -> Result<Output, AllocError>
     ensures prints { IfOk result (λ o. PrintsKept project.now name.now members (ended o)) }
-    ensures well { IfOk result EndsWell }
+    ensures well { IfOk result (EndsWell false) }
 {
     let kept = drop_subsumed(alloc, members)?;
     listed(alloc, project, name, kept.items())
@@ -59,7 +59,7 @@ fn listed(
     kept: &[Query],
 ) -> Result<Output, AllocError>
     ensures end { IfOk result (λ o. ended o ≡ done_with (printed project.now name.now kept.now) (queries_report kept.now)) }
-    ensures well { IfOk result EndsWell }
+    ensures well { IfOk result (EndsWell false) }
 {
     let text = printed(alloc, project, name, kept)?;
     let said = queries_report(alloc, kept)?;

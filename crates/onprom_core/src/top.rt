@@ -1,10 +1,11 @@
 //! The top call.
-ghost use Rattle.std.specs.Prelude.{◌≡◌, ◌≢◌, IfSome, IsTrue};
+ghost use Rattle.std.specs.Prelude.{◌≡◌, ◌≢◌, true, IfSome, IsTrue};
 ghost use Rattle.std.specs.Io.KnownBytes.{Appends, Keeps};
 ghost use Rattle.outside.specs.Counts.{Rose};
 ghost use Rattle.onprom_core.specs.Causes.{IsWhole};
+ghost use Rattle.onprom_core.specs.Commands.{is_make};
 ghost use Rattle.onprom_core.specs.Delivery.{EndsAs, EndsCut, EndsReporting, EndsEarly, ReportsFault, NamesFile, KeepsOut, Completes, AnswersNoCommand};
-ghost use Rattle.onprom_core.specs.Headline.{Extracts, ExtractsSoundly};
+ghost use Rattle.onprom_core.specs.Headline.{Answers, Checks, Extracts, ExtractsSoundly, Makes, Rewrites, Verifies};
 ghost use Rattle.onprom_core.specs.Lines.{absent_line, fault_line, usage_line};
 ghost use Rattle.onprom_core.specs.Walk.{walk, IsNoCommand};
 
@@ -33,6 +34,27 @@ pub fn run<S: Shelf, O: Sink, R: Sink>(
     // An extraction that is done wrote the one log of an accepted project that nothing contradicts.
     ensures sound { IfSome (S.held shelf.old) (λ files. ExtractsSoundly words.now files
         (O.written out.old) (O.written out.new) (R.written report.old) (R.written report.new) result) }
+    // The promise of `check`: what contradicts a project that is read.
+    ensures checks { IfSome (S.held shelf.old) (λ files. Checks words.now files
+        (S.faults shelf.old) (S.faults shelf.new) (O.faults out.old) (O.faults out.new) (R.faults report.old) (R.faults report.new)
+        (O.written out.old) (O.written out.new) (R.written report.old) (R.written report.new) result) }
+    // The promise of `verify`: whether derivations that are read are accepted.
+    ensures verifies { IfSome (S.held shelf.old) (λ files. Verifies words.now files
+        (S.faults shelf.old) (S.faults shelf.new) (O.faults out.old) (O.faults out.new) (R.faults report.old) (R.faults report.new)
+        (O.written out.old) (O.written out.new) (R.written report.old) (R.written report.new) result) }
+    // The promise of `answer`: the certain answers of a query of a project that is read.
+    ensures answers { IfSome (S.held shelf.old) (λ files. Answers words.now files
+        (S.faults shelf.old) (S.faults shelf.new) (O.faults out.old) (O.faults out.new) (R.faults report.old) (R.faults report.new)
+        (O.written out.old) (O.written out.new) (R.written report.old) (R.written report.new) result) }
+    // The promise of `rewrite`: queries that give the certain answers over any known facts.
+    ensures rewrites { IfSome (S.held shelf.old) (λ files. Rewrites words.now files
+        (S.faults shelf.old) (S.faults shelf.new) (O.faults out.old) (O.faults out.new) (R.faults report.old) (R.faults report.new)
+        (O.written out.old) (O.written out.new) (R.written report.old) (R.written report.new) result) }
+    // The promise of `make`, whatever the shelf holds or tells: the made files, and what is said of their log.
+    ensures makes { Makes words.now (O.faults out.old) (O.faults out.new) (R.faults report.old) (R.faults report.new)
+        (O.written out.old) (O.written out.new) (R.written report.old) (R.written report.new) result }
+    // `make` leaves the shelf alone.
+    ensures unused { is_make words.now ≡ true → shelf.new ≡ shelf.old }
     // Where no call failed and memory sufficed, the first end of the walk was written.
     ensures ends { IfSome (S.held shelf.old) (λ files. result ≢ Status.ReadFault → IsWhole result →
         EndsAs words.now files (O.written out.old) (O.written out.new) (R.written report.old) (R.written report.new) result) }

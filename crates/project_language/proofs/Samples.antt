@@ -3,7 +3,7 @@ use Rattle.std.proofs.Common.{◌≡◌, refl, ℕ, List, [], ◌∷◌, ◌++�
 use Rattle.std.specs.Str.{chars, is_utf8}
 use Rattle.std.specs.Str.Lossy.{utf8_valid_len}
 use Rattle.line_lexer.specs.Tokens.{tokens_behind, token_front}
-use Rattle.line_lexer.specs.declared.fault.LineFault.TheVariants.{Syntax, Unknown, Double, NotBounded, MixedSort, HeadUnbound, NotBuilt}
+use Rattle.line_lexer.specs.declared.fault.LineFault.TheVariants.{Syntax, Unknown, Double, NotBounded, MixedSort, HeadUnbound}
 use Rattle.iri_templates.specs.Templates.{template_of}
 use Rattle.uml_model.specs.Lines as model_lines
 use Rattle.uml_model.specs.Rules as model_rules
@@ -44,8 +44,8 @@ not_utf8 : fault_of (read_project (codes "onprom 1\n\"" ++ 0xFF ∷ [])) ≡ Som
 unfolding read_project utf8_valid_len is_utf8 chars lib.Utf8.encode
 not_utf8 = refl
 
--- a line that states a constraint is not built, once it is in the grammar and before anything else is looked at
-unbuilt : faults (map papers (codes "disjoint Paper Zed" ∷ codes "assoc p Paper 0..1 -> Paper *" ∷ codes "attr Paper t text 1..1" ∷ codes "disjoint Paper" ∷ codes "attr Paper t text 1..*" ∷ []))
-    ≡ Some (Line 6 NotBuilt) ∷ Some (Line 6 NotBuilt) ∷ Some (Line 6 NotBuilt) ∷ Some (Line 6 Syntax) ∷ None ∷ []
-unfolding chars tokens_behind token_front model_lines.model_line model_lines.attr_line model_lines.assoc_line model_lines.multiplicity_at model_rules.broken map_grammar.source_line map_grammar.table_line map_grammar.column_line map_tables.broken map_tables.grown open_lines read_lines read_project is_utf8 lib.Utf8.encode
-unbuilt = refl
+-- lines that state constraints are judged as all others
+constrained : faults (map papers (codes "disjoint Paper Zed" ∷ codes "assoc p Paper 0..1 -> Paper *" ∷ codes "attr Paper t text 1..1" ∷ codes "disjoint Paper" ∷ codes "identify Paper (submittedAt)" ∷ []))
+    ≡ Some (Line 6 Unknown) ∷ None ∷ None ∷ Some (Line 6 Syntax) ∷ None ∷ []
+unfolding chars tokens_behind token_front model_lines.model_line model_lines.attr_line model_lines.assoc_line model_lines.multiplicity_at model_lines.identify_line model_lines.at_most model_rules.is_functional model_rules.broken map_grammar.source_line map_grammar.table_line map_grammar.column_line map_tables.broken map_tables.grown open_lines read_lines read_project is_utf8 lib.Utf8.encode
+constrained = refl

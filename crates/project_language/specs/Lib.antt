@@ -1,3 +1,3 @@
-pub mod Built
 pub mod Project
 pub mod Sound
+pub mod Laws

@@ -23,7 +23,6 @@ use Rattle.annotation_language.specs.Lines.{Noted}
 use Rattle.project_language.specs.declared.fault.ProjectFault.{ProjectFault}
 use Rattle.project_language.specs.declared.fault.ProjectFault.TheVariants.{NotUtf8, Line, Limit, NoMemory}
 use Rattle.project_language.specs.declared.project.Project.{Project}
-use Rattle.project_language.specs.Built.{is_unbuilt}
 
 -- the fault of the line of this number
 abbrev pub as_fault : ℕ → LineFault → ProjectFault
@@ -94,7 +93,7 @@ read_note number p tokens = with_notes p (read_by annotation_line
     (notes.grown (class_named p.model) (link_named p.model) number p.noted) p.noted (Some tokens))
 
 abbrev pub read_model : Project → List Seen → Result Project LineFault
-read_model p tokens = if is_unbuilt (model_line tokens) then Err line_fault.NotBuilt else with_model p (read_parsed p.model (model_line tokens))
+read_model p tokens = with_model p (read_parsed p.model (model_line tokens))
 
 -- a line behind `onprom 1`, which may not come again; what begins with no word of another line is a model line or Syntax
 abbrev pub read_tokens : ℕ → Project → List Seen → Result Project LineFault

@@ -1,18 +1,16 @@
 //! Reading one line of a project.
 ghost use Rattle.std.specs.Prelude.{◌≡◌, ◌≢◌, [], map, OnOk, IfOk, IfErr, Ok, Err, Some};
 ghost use Rattle.line_lexer.specs.Tokens.{seen, tokens_of};
-ghost use Rattle.project_language.specs.Built.{is_constraining, is_unbuilt};
 ghost use Rattle.project_language.specs.Project.{is_of_tables, is_of_mappings, is_of_notes, is_opening, opening, read_seen, read_tokens};
 ghost use Rattle.project_language.specs.Sound.{IsSound};
-ghost use Rattle.uml_model.specs.Lines.{model_line, shown};
 
 use crate::Project;
 use annotation_language::read_annotation_line;
 use line_lexer::grammar::{ended, expect};
 use line_lexer::{Line, LineFault, Token, tokens_of};
 use mapping_language::{read_mapping_line, read_source_line};
-use std::alloc::{AllocError, Global};
-use uml_model::{ModelLine, model_line, read_model_line};
+use std::alloc::Global;
+use uml_model::read_model_line;
 
 // `table`, `column` or `key` stands first.
 fn is_of_tables(tokens: &[Token<'_>]) -> bool
@@ -68,31 +66,6 @@ pub(crate) fn opening(alloc: Global, line: &Line<'_>) -> Result<bool, LineFault>
     }
 }
 
-fn is_constraining(line: &ModelLine<'_>) -> bool
-    ensures { result ≡ is_constraining (shown line.now) }
-{
-    match line {
-        ModelLine::Class(_) => false,
-        ModelLine::Sub(_, _) => false,
-        ModelLine::Disjoint(_, _) => true,
-        ModelLine::Assoc(_, _, m, _, n) => m.ends_with_one() || n.ends_with_one(),
-        ModelLine::Attr(_, _, _, m) => m.ends_with_one(),
-        ModelLine::SubAssoc(_, _, _) => false,
-        ModelLine::SubAttr(_, _) => false,
-        ModelLine::DisjointAssoc(_, _, _) => true,
-        ModelLine::Identify(_, _) => true,
-    }
-}
-
-fn is_unbuilt(alloc: Global, tokens: &[Token<'_>]) -> Result<bool, AllocError>
-    ensures { IfOk result (λ unbuilt. unbuilt ≡ is_unbuilt (model_line (map seen tokens.now))) }
-{
-    match model_line(alloc, tokens)? {
-        Some(line) => Ok(is_constraining(&line)),
-        None => Ok(false),
-    }
-}
-
 impl Project {
     /// Reads a line behind `onprom 1`.
     pub(crate) fn read_line(&mut self, alloc: Global, line: &Line<'_>) -> Result<(), LineFault>
@@ -132,9 +105,6 @@ impl Project {
         }
         if is_of_notes(tokens) {
             return read_annotation_line(alloc, &mut self.noted, &self.model, line);
-        }
-        if is_unbuilt(alloc, tokens)? {
-            return Err(LineFault::NotBuilt);
         }
         read_model_line(alloc, &mut self.model, line)
     }

@@ -1,54 +1,46 @@
--- A source at a time.
-use Rattle.std.proofs.Common.{◌≡◌, sym, ap, subst, ◌∙◌, Some, get_or}
-use Rattle.std.proofs.lemmas.List.{take_all}
-use Rattle.vocabulary.specs.Lists.{In}
-use Rattle.mapping_facts.specs.Facts.{mapped_facts}
-use Rattle.vocabulary.specs.Lists.{item}
-use Rattle.dllite_axioms.specs.declared.axioms.Basic.TheVariants.{Class}
-use Rattle.negative_closure.specs.declared.source.Source.TheVariants.{One}
+-- By the values, or by the sources.
+use Rattle.std.proofs.Common.{◌≡◌, sym, ap, subst, ◌∙◌, Some}
+use Rattle.vocabulary.specs.Lists.{In, item}
+use Rattle.dllite_axioms.specs.declared.axioms.Constraint.TheVariants.{Identified}
 use Rattle.dllite_axioms.specs.Within.{IsConstraintWithin}
 use Rattle.negative_closure.specs.Sources.{HasExactSources}
-use Rattle.negative_closure.proofs.Places.{In-at}
-use Rattle.consistency_check.proofs.Gathered.{item_in, no_item, none_contradicted, not_met, one_contradicted}
+use Rattle.identification_check.specs.Violations.{AreAttributes}
+use Rattle.consistency_check.specs.Checkable.{IsCheckable, KnowAll}
+use Rattle.consistency_check.proofs.Gathered.{item_in, no_item}
+use Rattle.consistency_check.proofs.Identified.{exact_or_identified}
 use Rattle.consistency_check.proofs.finding.contradiction.Goals as goal
 
-pub empty_sources-requires-clause-exact : goal.empty_sources-requires-clause-exact
-empty_sources-requires-clause-exact c =
+pub by_values-requires-clause-within : goal.by_values-requires-clause-within
+by_values-requires-clause-within c =
     let named = sym (subst (λ cs. Some c.in-Some.constraint.now ≡ item cs c.args.number) c.constraints.ensures c.in-Some.ensures) in
-    subst (λ h. HasExactSources h.axioms c.in-Some.constraint.now) (sym c.requires.axioms) (c.requires.exact c.in-Some.constraint.now (item_in c.args.tbox.now.constraints c.args.number c.in-Some.constraint.now named))
+    let listed = item_in c.args.tbox.now.constraints c.args.number c.in-Some.constraint.now named in
+    let same : c.in-Some.constraint.now ≡ Identified c.in-Identified.class c.items.result.now = c.in-Identified.is ∙ ap (Identified c.in-Identified.class) (sym c.items.ensures) in
+    subst (λ h. IsConstraintWithin h.classes h.links (Identified c.in-Identified.class c.items.result.now)) (sym c.requires.prepared.axioms) (subst (IsConstraintWithin 400 600) same (c.requires.constraints c.in-Some.constraint.now listed))
 
-pub empty_sources-requires-clause-within : goal.empty_sources-requires-clause-within
-empty_sources-requires-clause-within c =
+pub by_values-requires-clause-attributes : goal.by_values-requires-clause-attributes
+by_values-requires-clause-attributes c =
     let named = sym (subst (λ cs. Some c.in-Some.constraint.now ≡ item cs c.args.number) c.constraints.ensures c.in-Some.ensures) in
-    subst (λ h. IsConstraintWithin h.classes h.links c.in-Some.constraint.now) (sym c.requires.axioms) (c.requires.constraints c.in-Some.constraint.now (item_in c.args.tbox.now.constraints c.args.number c.in-Some.constraint.now named))
+    let listed = item_in c.args.tbox.now.constraints c.args.number c.in-Some.constraint.now named in
+    let same : c.in-Some.constraint.now ≡ Identified c.in-Identified.class c.items.result.now = c.in-Identified.is ∙ ap (Identified c.in-Identified.class) (sym c.items.ensures) in
+    subst (λ h. AreAttributes h.axioms c.items.result.now) (sym c.requires.prepared.axioms) (subst (IsCheckable c.args.tbox.now.axioms) same (c.requires.checkable c.in-Some.constraint.now listed))
 
-pub plan-requires-clause-within : goal.plan-requires-clause-within
-plan-requires-clause-within c =
+pub by_values-requires-clause-saturated : goal.by_values-requires-clause-saturated
+by_values-requires-clause-saturated c =
     let named = sym (subst (λ cs. Some c.in-Some.constraint.now ≡ item cs c.args.number) c.constraints.ensures c.in-Some.ensures) in
-    subst (λ h. IsConstraintWithin h.classes h.links c.in-Some.constraint.now) (sym c.requires.axioms) (c.requires.constraints c.in-Some.constraint.now (item_in c.args.tbox.now.constraints c.args.number c.in-Some.constraint.now named))
+    let listed = subst (λ k. In k c.args.tbox.now.constraints) c.in-Identified.is (item_in c.args.tbox.now.constraints c.args.number c.in-Some.constraint.now named) in
+    subst (λ h. KnowAll h.axioms c.args.mappings.now c.args.prepared.now.saturated) (sym c.requires.prepared.axioms) (c.requires.prepared.saturated c.in-Identified.class c.in-Identified.links listed)
 
-pub plan-requires-clause-source : goal.plan-requires-clause-source
-plan-requires-clause-source c =
-    let exact = rw (← c.items-source-items.ensures) at c.in_ok-sources.ensures.sources in
-    (exact _).0 (In-at _ _ _ c.loop-source-test.true)
-
-pub loop-source-preserved : goal.loop-source-preserved
-loop-source-preserved c =
-    not_met (mapped_facts c.args.mappings.now c.args.tables.now) c.items-source-items.result.now c.loop-source.source-index (One (Class (record { 0 = 0 }))) c.loop-source-test.true c.loop-source.invariant (rw c.in_default-2.is at c.in_ok-met.ensures)
+pub by_sources-requires : goal.by_sources-requires
+by_sources-requires c =
+    let named = sym (subst (λ cs. Some c.in-Some.constraint.now ≡ item cs c.args.number) c.constraints.ensures c.in-Some.ensures) in
+    let listed = item_in c.args.tbox.now.constraints c.args.number c.in-Some.constraint.now named in
+    record {
+      fit = c.requires.fit;
+      given = c.requires.prepared.given;
+      within = subst (λ h. IsConstraintWithin h.classes h.links c.in-Some.constraint.now) (sym c.requires.prepared.axioms) (c.requires.constraints c.in-Some.constraint.now listed);
+      exact = subst (λ h. HasExactSources h.axioms c.in-Some.constraint.now) (sym c.requires.prepared.axioms) (exact_or_identified c.args.tbox.now.axioms c.in-Some.constraint.now (c.requires.checkable c.in-Some.constraint.now listed) c.in_default-constraint.not-Identified);
+    }
 
 pub returns-in_default : goal.returns-in_default
 returns-in_default c =
     no_item c.args.tbox.now c.args.mappings.now c.args.tables.now c.args.number (c.in_default.ensures ∙ ap (λ cs. item cs c.args.number) c.constraints.ensures)
-
-pub returns-in-Some-2 : goal.returns-in-Some-2
-returns-in-Some-2 c =
-    let named = sym (subst (λ cs. Some c.in-Some.constraint.now ≡ item cs c.args.number) c.constraints.ensures c.in-Some.ensures) in
-    let listed = subst (In (get_or c.items-source-items.result.now c.loop-source.source-index (One (Class (record { 0 = 0 }))))) c.items-source-items.ensures (In-at c.items-source-items.result.now c.loop-source.source-index (One (Class (record { 0 = 0 }))) c.loop-source-test.true) in
-    one_contradicted c.args.tbox.now c.args.mappings.now c.args.tables.now c.args.number c.args.downs.now.axioms c.in-Some.constraint.now c.in_ok-sources.sources (get_or c.items-source-items.result.now c.loop-source.source-index (One (Class (record { 0 = 0 })))) c.in-Some-2.met c.in_ok-plan.plan c.in_ok-derivation_of.field-0
-    c.requires.fit (ap (λ h. h.axioms) c.requires.axioms) named c.in_ok-sources.ensures.contradicted listed (rw c.in-Some-2.is at c.in_ok-met.ensures) c.in_ok-plan.ensures.clash c.in_ok-plan.ensures.few c.in_ok-derivation_of.ensures
-
-pub returns : goal.returns
-returns c =
-    let named = sym (subst (λ cs. Some c.in-Some.constraint.now ≡ item cs c.args.number) c.constraints.ensures c.in-Some.ensures) in
-    none_contradicted c.args.tbox.now c.args.mappings.now c.args.tables.now c.args.number c.args.downs.now.axioms c.in-Some.constraint.now c.in_ok-sources.sources c.requires.fit (ap (λ h. h.axioms) c.requires.axioms) named c.in_ok-sources.ensures.contradicted
-    (λ s m. c.loop-source.invariant s (subst (In s) (sym (take_all c.loop-source.source-index c.items-source-items.result.now c.loop-source-test.false)) (subst (In s) (sym c.items-source-items.ensures) m)))

@@ -1,6 +1,9 @@
 use Rattle.onprom_core.specs.Shown.{shown}
 use Rattle.onprom_core.proofs.Ends.{ends_from, written_from, reporting_from, early_from, faulted_from, complete_from}
 use Rattle.onprom_core.proofs.Headlines.{extracts_from, sound_from}
+use Rattle.onprom_core.proofs.Judging.{checks_from, verifies_from}
+use Rattle.onprom_core.proofs.MadeFiles.{makes_from}
+use Rattle.onprom_core.proofs.Asking.{answers_from, rewrites_from}
 use Rattle.onprom_core.proofs.top.run.Goals as goal
 
 pub returns-in-Ok-clause-ends : goal.returns-in-Ok-clause-ends
@@ -58,3 +61,38 @@ pub returns-in-Ok-clause-sound : goal.returns-in-Ok-clause-sound
 returns-in-Ok-clause-sound g c =
     sound_from c.args.words.now (g.O.Sink.written c.args.out.now) (g.O.Sink.written c.deliver.new.out) (g.R.Sink.written c.args.report.now) (g.R.Sink.written c.deliver.new.report)
     c.deliver.result (shown c.in-Ok.decided) (g.S.Shelf.held c.args.shelf.now) c.in-Ok.ensures.job c.deliver.ensures.delivered
+
+pub returns-in-Ok-clause-checks : goal.returns-in-Ok-clause-checks
+returns-in-Ok-clause-checks g c =
+    checks_from c.args.words.now (g.S.Shelf.faults c.args.shelf.now) (g.S.Shelf.faults c.decide.new.shelf)
+    (g.O.Sink.faults c.args.out.now) (g.O.Sink.faults c.deliver.new.out) (g.R.Sink.faults c.args.report.now) (g.R.Sink.faults c.deliver.new.report)
+    (g.O.Sink.written c.args.out.now) (g.O.Sink.written c.deliver.new.out) (g.R.Sink.written c.args.report.now) (g.R.Sink.written c.deliver.new.report)
+    c.deliver.result (g.S.Shelf.held c.args.shelf.now) (returns-in-Ok-clause-ends g c) (returns-in-Ok-clause-complete g c)
+
+pub returns-in-Ok-clause-verifies : goal.returns-in-Ok-clause-verifies
+returns-in-Ok-clause-verifies g c =
+    verifies_from c.args.words.now (g.S.Shelf.faults c.args.shelf.now) (g.S.Shelf.faults c.decide.new.shelf)
+    (g.O.Sink.faults c.args.out.now) (g.O.Sink.faults c.deliver.new.out) (g.R.Sink.faults c.args.report.now) (g.R.Sink.faults c.deliver.new.report)
+    (g.O.Sink.written c.args.out.now) (g.O.Sink.written c.deliver.new.out) (g.R.Sink.written c.args.report.now) (g.R.Sink.written c.deliver.new.report)
+    c.deliver.result (g.S.Shelf.held c.args.shelf.now) (returns-in-Ok-clause-ends g c) (returns-in-Ok-clause-complete g c)
+
+pub returns-in-Ok-clause-answers : goal.returns-in-Ok-clause-answers
+returns-in-Ok-clause-answers g c =
+    answers_from c.args.words.now (g.S.Shelf.faults c.args.shelf.now) (g.S.Shelf.faults c.decide.new.shelf)
+    (g.O.Sink.faults c.args.out.now) (g.O.Sink.faults c.deliver.new.out) (g.R.Sink.faults c.args.report.now) (g.R.Sink.faults c.deliver.new.report)
+    (g.O.Sink.written c.args.out.now) (g.O.Sink.written c.deliver.new.out) (g.R.Sink.written c.args.report.now) (g.R.Sink.written c.deliver.new.report)
+    c.deliver.result (g.S.Shelf.held c.args.shelf.now) (returns-in-Ok-clause-ends g c) (returns-in-Ok-clause-complete g c)
+
+pub returns-in-Ok-clause-rewrites : goal.returns-in-Ok-clause-rewrites
+returns-in-Ok-clause-rewrites g c =
+    rewrites_from c.args.words.now (g.S.Shelf.faults c.args.shelf.now) (g.S.Shelf.faults c.decide.new.shelf)
+    (g.O.Sink.faults c.args.out.now) (g.O.Sink.faults c.deliver.new.out) (g.R.Sink.faults c.args.report.now) (g.R.Sink.faults c.deliver.new.report)
+    (g.O.Sink.written c.args.out.now) (g.O.Sink.written c.deliver.new.out) (g.R.Sink.written c.args.report.now) (g.R.Sink.written c.deliver.new.report)
+    c.deliver.result (g.S.Shelf.held c.args.shelf.now) (returns-in-Ok-clause-ends g c) (returns-in-Ok-clause-complete g c)
+
+pub returns-in-Ok-clause-makes : goal.returns-in-Ok-clause-makes
+returns-in-Ok-clause-makes g c =
+    makes_from c.args.words.now
+    (g.O.Sink.faults c.args.out.now) (g.O.Sink.faults c.deliver.new.out) (g.R.Sink.faults c.args.report.now) (g.R.Sink.faults c.deliver.new.report)
+    (g.O.Sink.written c.args.out.now) (g.O.Sink.written c.deliver.new.out) (g.R.Sink.written c.args.report.now) (g.R.Sink.written c.deliver.new.report)
+    c.deliver.result (shown c.in-Ok.decided) c.deliver.ensures.delivered c.deliver.ensures.write c.deliver.ensures.report c.in-Ok.ensures.made

@@ -1,0 +1,67 @@
+-- By the command that the words name.
+use Rattle.std.proofs.Common.{sym, ◌∙◌, Ok}
+use Rattle.onprom_core.specs.Commands.{Answer, Check, Extract, Make, Rewrite, Verify}
+use Rattle.onprom_core.proofs.MadeFiles.{made_end, made_works}
+use Rattle.onprom_core.proofs.Walks.{works_from}
+use Rattle.onprom_core.proofs.Words.{answer_named, check_named, extract_named, make_named, no_command, no_walk, none_named, rewrite_named, verify_named}
+use Rattle.onprom_core.proofs.commands.work.Goals as goal
+
+pub returns-then-is_extract-clause-told : goal.returns-then-is_extract-clause-told
+returns-then-is_extract-clause-told g c =
+    works_from (g.S.Shelf.held c.args.shelf.now) c.args.words.now (Extract c.get.result.now) c.extract.result
+    (extract_named c.args.words.now c.get.result.now (sym c.is_extract.ensures ∙ c.if-is_extract.true) c.get.ensures) c.extract.ensures.told
+
+pub returns-then-is_check-clause-told : goal.returns-then-is_check-clause-told
+returns-then-is_check-clause-told g c =
+    let p = c.get-then-is_check in
+    works_from (g.S.Shelf.held c.args.shelf.now) c.args.words.now (Check p.result.now) c.check.result
+    (check_named c.args.words.now p.result.now (sym c.is_extract.ensures ∙ c.if-is_extract.false) (sym c.is_check.ensures ∙ c.if-is_check.true) p.ensures) c.check.ensures.told
+
+pub returns-then-is_verify-clause-told : goal.returns-then-is_verify-clause-told
+returns-then-is_verify-clause-told g c =
+    let p = c.get-then-is_verify in
+    let d = c.get-then-is_verify-2 in
+    works_from (g.S.Shelf.held c.args.shelf.now) c.args.words.now (Verify p.result.now d.result.now) c.verify.result
+    (verify_named c.args.words.now p.result.now d.result.now (sym c.is_verify.ensures ∙ c.if-is_verify.true) p.ensures d.ensures) c.verify.ensures.told
+
+pub returns-then-is_answer-clause-told : goal.returns-then-is_answer-clause-told
+returns-then-is_answer-clause-told g c =
+    let p = c.get-then-is_answer in
+    let q = c.get-then-is_answer-2 in
+    works_from (g.S.Shelf.held c.args.shelf.now) c.args.words.now (Answer p.result.now q.result.now) c.answer.result
+    (answer_named c.args.words.now p.result.now q.result.now (sym c.is_verify.ensures ∙ c.if-is_verify.false) (sym c.is_answer.ensures ∙ c.if-is_answer.true) p.ensures q.ensures) c.answer.ensures.told
+
+pub returns-then-is_rewrite-clause-told : goal.returns-then-is_rewrite-clause-told
+returns-then-is_rewrite-clause-told g c =
+    let p = c.get-then-is_rewrite in
+    let q = c.get-then-is_rewrite-2 in
+    works_from (g.S.Shelf.held c.args.shelf.now) c.args.words.now (Rewrite p.result.now q.result.now) c.rewrite.result
+    (rewrite_named c.args.words.now p.result.now q.result.now (sym c.is_verify.ensures ∙ c.if-is_verify.false) (sym c.is_answer.ensures ∙ c.if-is_answer.false)
+    (sym c.is_rewrite.ensures ∙ c.if-is_rewrite.true) p.ensures q.ensures) c.rewrite.ensures.told
+
+pub returns-in-Some-clause-told : goal.returns-in-Some-clause-told
+returns-in-Some-clause-told g c =
+    works_from (g.S.Shelf.held c.args.shelf.now) c.args.words.now (Make c.in-Some.docs c.get-in-Some.result.now) (Ok c.in_ok-making.field-0)
+    (make_named c.args.words.now c.in-Some.docs c.get-in-Some.result.now (sym c.is_verify.ensures ∙ c.if-is_verify.false) (sym c.is_answer.ensures ∙ c.if-is_answer.false)
+    (sym c.is_rewrite.ensures ∙ c.if-is_rewrite.false) (sym c.docs_named.ensures ∙ c.in-Some.is) c.get-in-Some.ensures)
+    (made_works (g.S.Shelf.held c.args.shelf.now) c.in-Some.docs c.get-in-Some.result.now c.in_ok-making.field-0 c.in_ok-making.ensures.ends)
+
+pub returns-in-Some-clause-made : goal.returns-in-Some-clause-made
+returns-in-Some-clause-made g c = λ make.
+    made_end c.args.words.now c.in-Some.docs c.get-in-Some.result.now c.in_ok-making.field-0
+    (make_named c.args.words.now c.in-Some.docs c.get-in-Some.result.now (sym c.is_verify.ensures ∙ c.if-is_verify.false) (sym c.is_answer.ensures ∙ c.if-is_answer.false)
+    (sym c.is_rewrite.ensures ∙ c.if-is_rewrite.false) (sym c.docs_named.ensures ∙ c.in-Some.is) c.get-in-Some.ensures)
+    c.in_ok-making.ensures.ends
+
+pub returns-clause-told : goal.returns-clause-told
+returns-clause-told g c =
+    no_walk (g.S.Shelf.held c.args.shelf.now) c.args.words.now c.in_ok-usage_line.field-0
+    (none_named c.args.words.now (sym c.is_extract.ensures ∙ c.if-is_extract.false) (sym c.is_check.ensures ∙ c.if-is_check.false) (sym c.is_verify.ensures ∙ c.if-is_verify.false)
+    (sym c.is_answer.ensures ∙ c.if-is_answer.false) (sym c.is_rewrite.ensures ∙ c.if-is_rewrite.false) (sym c.docs_named.ensures ∙ c.in_default.is))
+    c.in_ok-usage_line.ensures
+
+pub returns-clause-usage : goal.returns-clause-usage
+returns-clause-usage g c = λ usage.
+    no_command c.args.words.now
+    (none_named c.args.words.now (sym c.is_extract.ensures ∙ c.if-is_extract.false) (sym c.is_check.ensures ∙ c.if-is_check.false) (sym c.is_verify.ensures ∙ c.if-is_verify.false)
+    (sym c.is_answer.ensures ∙ c.if-is_answer.false) (sym c.is_rewrite.ensures ∙ c.if-is_rewrite.false) (sym c.docs_named.ensures ∙ c.in_default.is))

@@ -1,0 +1,12 @@
+use Rattle.onprom_core.proofs.Asking.{counts_local, rewrite_from}
+use Rattle.onprom_core.proofs.querying.rewrite.Goals as goal
+
+pub returns-clause-told : goal.returns-clause-told
+returns-clause-told g c =
+    rewrite_from (g.S.Shelf.held c.args.shelf.now) c.args.name.now c.in_ok-project.project c.args.query.now c.rewrite_from.result
+    c.in_ok-project.ensures.told c.rewrite_from.ensures.told
+
+pub returns-clause-counts : goal.returns-clause-counts
+returns-clause-counts g c =
+    counts_local (g.S.Shelf.faults c.args.shelf.now) (g.S.Shelf.faults c.project_read.new.shelf) (g.S.Shelf.absences c.args.shelf.now) (g.S.Shelf.absences c.project_read.new.shelf)
+    (g.S.Shelf.failed c.project_read.new.shelf) c.rewrite_from.result c.in_ok-project.ensures.counts.no_fault c.in_ok-project.ensures.counts.no_absence c.rewrite_from.ensures.local
