@@ -34,10 +34,15 @@ fn basic(word: &str) -> Basic {
     }
 }
 
-// `A1 < p0`.
+// `A1 < p0`, or `p1- << p0` between links.
 fn axiom(text: &str) -> Option<Axiom> {
-    let (left, right) = text.split_once(" < ")?;
-    Some(Axiom::Sub(basic(left), basic(right)))
+    match text.split_once(" << ") {
+        Some((narrow, wide)) => Some(Axiom::SubLink(link(narrow), dir(narrow), link(wide))),
+        None => {
+            let (left, right) = text.split_once(" < ")?;
+            Some(Axiom::Sub(basic(left), basic(right)))
+        }
+    }
 }
 
 // `A1 # p0`, `p0 ## p1-` between links, or `one p0` of a functional link.

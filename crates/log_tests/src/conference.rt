@@ -1,4 +1,4 @@
-//! The conference example, without the lines that state a constraint.
+//! The conference example.
 
 pub(crate) const PROJECT: &str = "onprom 1
 table paper \"paper.csv\"
@@ -20,14 +20,15 @@ key person (id)
 class Paper
 class Person
 class Review
+disjoint Paper Person
 assoc writes Person 1..* -> Paper *
-assoc about Review * -> Paper 1..*
-assoc doneBy Review * -> Person 1..*
-attr Paper title text 1..*
-attr Paper submittedAt time *
-attr Review doneAt time *
+assoc about Review * -> Paper 1
+assoc doneBy Review * -> Person 1
+attr Paper title text 1
+attr Paper submittedAt time 0..1
+attr Review doneAt time 0..1
 attr Review reviewerName text *
-attr Person name text 1..*
+attr Person name text 1
 map m1 from paper p then Paper(iri \"http://conf.org/paper/{p.id}\"), title(iri \"http://conf.org/paper/{p.id}\", p.title)
 map m2 from paper p then submittedAt(iri \"http://conf.org/paper/{p.id}\", p.submitted)
 map m3 from paper p then writes(iri \"http://conf.org/person/{p.author}\", iri \"http://conf.org/paper/{p.id}\")
@@ -111,6 +112,14 @@ pub(crate) const LOG: &str = "<?xml version=\"1.0\" encoding=\"UTF-8\"?>
 </log>
 ";
 
-pub(crate) const REPORT: &str = "traces 2 events 4 left out 1
-left out: review <http://conf.org/review/r2>: none time:timestamp
+// What stands in front of the traces of each log.
+pub(crate) const NO_TRACES: &str = "<?xml version=\"1.0\" encoding=\"UTF-8\"?>
+<log xes.version=\"1849.2016\" xes.features=\"\">
+  <extension name=\"Concept\" prefix=\"concept\" uri=\"http://www.xes-standard.org/concept.xesext\"/>
+  <extension name=\"Time\" prefix=\"time\" uri=\"http://www.xes-standard.org/time.xesext\"/>
+  <extension name=\"Organizational\" prefix=\"org\" uri=\"http://www.xes-standard.org/org.xesext\"/>
+  <extension name=\"Lifecycle\" prefix=\"lifecycle\" uri=\"http://www.xes-standard.org/lifecycle.xesext\"/>
 ";
+
+pub(crate) const REPORT: &str = "traces 2 events 4 left out 1
+left out: review <http://conf.org/review/r2>: none time:timestamp";

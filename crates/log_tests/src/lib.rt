@@ -4,10 +4,22 @@
 #[cfg(test)]
 mod assembling;
 #[cfg(test)]
+mod cases;
+#[cfg(test)]
 mod conference;
+#[cfg(test)]
+mod conflicts;
 #[cfg(test)]
 mod derivations;
 #[cfg(test)]
+mod limits;
+#[cfg(test)]
+mod logs;
+#[cfg(test)]
+mod made;
+#[cfg(test)]
 mod running;
+#[cfg(test)]
+mod small;
 #[cfg(test)]
 mod writing;

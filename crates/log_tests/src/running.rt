@@ -1,7 +1,7 @@
 //! The top call over files and sinks in memory. The texts are those of the first example.
-use crate::conference;
+use crate::cases::{shelf_of, words_of};
 use onprom_core::{Status, run};
-use outside::{MemoryShelf, MemorySink, Shelf, Sink, SureShelf, SureSink, Words};
+use outside::{MemoryShelf, MemorySink, Shelf, Sink, SureShelf, SureSink};
 use std::alloc::{AllocError, Global};
 use std::test::Fail;
 
@@ -51,24 +51,6 @@ const BACK: &str = "  </trace>\n</log>\n";
 const USAGE: &str =
     "usage: extract P | check P | verify P D | answer P Q | rewrite P Q | make N F\n";
 
-fn words_of(alloc: Global, all: &str) -> Result<Words, AllocError> {
-    let mut words = Words::new(alloc);
-    for word in all.split_whitespace() {
-        words.push(word)?;
-    }
-    Ok(words)
-}
-
-fn shelf_of(alloc: Global, files: &[(&str, &str)]) -> Result<SureShelf, AllocError> {
-    let mut shelf = SureShelf::new(alloc);
-    for (name, text) in files {
-        if !shelf.holds(name) {
-            shelf.add_file(name, text.as_bytes())?;
-        }
-    }
-    Ok(shelf)
-}
-
 // Whether the command ends so over the shelf, with this text and this report.
 fn ends<S: Shelf>(
     alloc: Global,
@@ -94,7 +76,7 @@ fn ends_over(
     text: &str,
     line: &str,
 ) -> Result<bool, AllocError> {
-    let mut shelf = shelf_of(alloc, files)?;
+    let mut shelf = shelf_of(alloc, "", files)?;
     ends(alloc, &mut shelf, words, status, text, line)
 }
 
@@ -134,23 +116,6 @@ left out: create <http://e/b>: several time:timestamp
     Ok(())
 }
 
-fn writes_the_conference(alloc: Global) -> Result<bool, AllocError> {
-    let files = [
-        ("conf.txt", conference::PROJECT),
-        ("paper.csv", conference::PAPER),
-        ("person.csv", conference::PERSON),
-        ("review.csv", conference::REVIEW),
-    ];
-    let (log, report) = (conference::LOG, conference::REPORT);
-    ends_over(alloc, &files, "extract conf.txt", Status::Done, log, report)
-}
-
-#[test]
-fn writes_the_log_of_the_conference(rt: HostRuntime) -> Result<(), Fail> {
-    assert!(rt; writes_the_conference(rt.alloc())?);
-    Ok(())
-}
-
 fn refuses(alloc: Global, files: &[(&str, &str)], line: &str) -> Result<bool, AllocError> {
     ends_over(alloc, files, "extract p", Status::Refused, "", line)
 }
@@ -169,8 +134,8 @@ fn refuses_with_the_first_fault_of_the_project(rt: HostRuntime) -> Result<(), Fa
             "refused: p line 2: Unknown\n",
         ),
         (
-            "onprom 1\nclass A\nattr A u int 0..1\n",
-            "refused: p line 3: NotBuilt\n",
+            "onprom 1\nclass A\nattr A u int *\nidentify A (u, u)\n",
+            "refused: p line 4: TypeMismatch\n",
         ),
         ("onprom 1\nclass A\n", "refused: p line 0: NoCase\n"),
         (
@@ -218,27 +183,49 @@ fn refuses_with_the_first_fault_of_a_table(rt: HostRuntime) -> Result<(), Fail> 
     Ok(())
 }
 
-fn names_the_limit_of_lines(alloc: Global) -> Result<bool, AllocError> {
-    let mut project = String::from_str(alloc, "onprom 1")?;
-    for _ in 0..20_000 {
-        project.push_str("\nclass A")?;
-    }
-    let files = [("p", project.as_str())];
-    ends_over(
-        alloc,
-        &files,
-        "extract p",
-        Status::Limit,
-        "",
-        "limit: lines\n",
-    )
-}
+// A project that is not there.
+const ABSENT: &str = "extract q
+check q
+verify q p
+answer q case
+rewrite q case";
 
-#[test]
-fn names_a_limit_that_is_passed(rt: HostRuntime) -> Result<(), Fail> {
-    assert!(rt; names_the_limit_of_lines(rt.alloc())?);
-    Ok(())
-}
+// A project whose table is not there.
+const WITHOUT_TABLE: &str = "extract p
+check p
+verify p q
+answer p case
+answer p create";
+
+// Words that are in no line of the table; the first are none.
+const NO_COMMANDS: &str = "
+extract
+extract p q
+Extract p
+check
+check p q
+verify p
+verify p q r
+answer p
+answer p case case
+rewrite p
+make
+make 5
+make 0 doc.csv
+make 007 doc.csv
+make +5 doc.csv
+make 5 x
+make 5 Summary
+make 5.0 summary
+make 100001 doc.csv
+make 18446744073709551617 doc.csv
+make doc.csv 5
+make 5 doc.csv x
+why p case 1
+lint p
+contained p case case
+help
+p";
 
 // The project alone is on the shelf.
 fn ends_early(alloc: Global, words: &str, status: Status, line: &str) -> Result<bool, AllocError> {
@@ -247,15 +234,23 @@ fn ends_early(alloc: Global, words: &str, status: Status, line: &str) -> Result<
 
 #[test]
 fn names_what_is_absent_and_what_is_no_command(rt: HostRuntime) -> Result<(), Fail> {
-    for (words, status, line) in [
-        ("extract q", Status::Absent, "absent: q\n"),
-        ("extract p", Status::Absent, "absent: doc.csv\n"),
-        ("", Status::Usage, USAGE),
-        ("extract", Status::Usage, USAGE),
-        ("extract a b", Status::Usage, USAGE),
-        ("Extract p", Status::Usage, USAGE),
-    ] {
-        assert!(rt; ends_early(rt.alloc(), words, status, line)?, "{words}");
+    for words in ABSENT.lines() {
+        assert!(rt;
+            ends_early(rt.alloc(), words, Status::Absent, "absent: q\n")?,
+            "{words}"
+        );
+    }
+    for words in WITHOUT_TABLE.lines() {
+        assert!(rt;
+            ends_early(rt.alloc(), words, Status::Absent, "absent: doc.csv\n")?,
+            "{words}"
+        );
+    }
+    for words in NO_COMMANDS.lines() {
+        assert!(rt;
+            ends_early(rt.alloc(), words, Status::Usage, USAGE)?,
+            "{words}"
+        );
     }
     Ok(())
 }
@@ -297,17 +292,18 @@ fn names_the_file_whose_reading_failed(rt: HostRuntime) -> Result<(), Fail> {
     Ok(())
 }
 
-fn failing_sink(alloc: Global, call: u64) -> Result<MemorySink, AllocError> {
-    let mut sink = MemorySink::new(alloc, 64);
+// A sink that takes so many bytes at once and fails at this call.
+fn failing_sink(alloc: Global, most: usize, call: u64) -> Result<MemorySink, AllocError> {
+    let mut sink = MemorySink::new(alloc, most);
     sink.fail_at(call)?;
     Ok(sink)
 }
 
 fn leaves_front_of_text(alloc: Global) -> Result<bool, AllocError> {
     let words = words_of(alloc, "extract p1.txt")?;
-    let mut shelf = shelf_of(alloc, &[("p1.txt", PROJECT), ("doc.csv", TABLE)])?;
-    let mut out = failing_sink(alloc, 2)?;
-    let mut report = failing_sink(alloc, 9)?;
+    let mut shelf = shelf_of(alloc, "", &[("p1.txt", PROJECT), ("doc.csv", TABLE)])?;
+    let mut out = failing_sink(alloc, 64, 2)?;
+    let mut report = failing_sink(alloc, 64, 9)?;
     let ended = run(alloc, &words, &mut shelf, &mut out, &mut report);
     Ok(
         ended == Status::WriteFault
@@ -327,7 +323,7 @@ fn leaves_front_of_report(alloc: Global) -> Result<bool, AllocError> {
     let words = words_of(alloc, "check")?;
     let mut shelf = SureShelf::new(alloc);
     let mut out = SureSink::new(alloc);
-    let mut report = failing_sink(alloc, 2)?;
+    let mut report = failing_sink(alloc, 64, 2)?;
     let ended = run(alloc, &words, &mut shelf, &mut out, &mut report);
     Ok(ended == Status::ReportFault && report.written().len() == 64)
 }
@@ -335,6 +331,55 @@ fn leaves_front_of_report(alloc: Global) -> Result<bool, AllocError> {
 #[test]
 fn leaves_a_front_where_a_report_failed(rt: HostRuntime) -> Result<(), Fail> {
     assert!(rt; leaves_front_of_report(rt.alloc())?);
+    Ok(())
+}
+
+const CONTRADICTED: &str = "onprom 1
+table t \"t.csv\"
+column t a text
+class A
+disjoint A A
+map m from t x then A(iri \"http://e/{x.a}\")
+";
+
+// Whether the text is derivations, or where it is cut has so many bytes.
+fn is_written(text: &[u8], cut: Option<usize>) -> bool {
+    match cut {
+        Some(len) => text.len() == len && b"conflict 1\n1 map".starts_with(text),
+        None => text.starts_with(b"conflict 1\n") && text.ends_with(b"\nend\n"),
+    }
+}
+
+// A run of `check` over one contradiction, whose text fails at one call and whose report at another.
+fn checks_to(
+    alloc: Global,
+    calls: (u64, u64),
+    status: Status,
+    cut: Option<usize>,
+    line: &str,
+) -> Result<bool, AllocError> {
+    let words = words_of(alloc, "check p")?;
+    let mut shelf = shelf_of(alloc, "", &[("p", CONTRADICTED), ("t.csv", "a\n1\n")])?;
+    let mut out = failing_sink(alloc, 16, calls.0)?;
+    let mut report = failing_sink(alloc, 8, calls.1)?;
+    let ended = run(alloc, &words, &mut shelf, &mut out, &mut report);
+    Ok(ended == status && is_written(out.written(), cut) && report.written() == line.as_bytes())
+}
+
+#[test]
+fn a_conflict_is_written_and_then_reported(rt: HostRuntime) -> Result<(), Fail> {
+    for (out, report, status, cut, line) in [
+        (99, 99, Status::Conflict, None, "contradicted 1\n"),
+        (1, 1, Status::WriteFault, Some(0), ""),
+        (2, 99, Status::WriteFault, Some(16), ""),
+        (99, 1, Status::ReportFault, None, ""),
+        (99, 2, Status::ReportFault, None, "contradi"),
+    ] {
+        assert!(rt;
+            checks_to(rt.alloc(), (out, report), status, cut, line)?,
+            "{out} {report}"
+        );
+    }
     Ok(())
 }
 
