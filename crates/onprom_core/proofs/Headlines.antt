@@ -58,7 +58,7 @@ walked files p project tables a =
 whole : (project : Project) (tables : List Loaded) (e : Ending) (r : Status) → EndsExtraction project tables e → r ≡ e.status → IsWhole r × (r ≢ status.ReadFault)
 whole project tables e r (extracted agrees narrow done texts) same = rw (same ∙ done) (record { written = λ x. cc; reported = λ x. cc; memory = λ x. cc }, λ x. cc)
 whole project tables e r (too_wide agrees wide is) same = rw (same ∙ ap (λ e. e.status) is) (record { written = λ x. cc; reported = λ x. cc; memory = λ x. cc }, λ x. cc)
-whole project tables e r (contradicted clash ds are is) same = rw (same ∙ ap (λ e. e.status) is) (record { written = λ x. cc; reported = λ x. cc; memory = λ x. cc }, λ x. cc)
+whole project tables e r (contradicted clash ds are back is) same = rw (same ∙ ap (λ e. e.status) is) (record { written = λ x. cc; reported = λ x. cc; memory = λ x. cc }, λ x. cc)
 
 pub Keeps-of : (a b : Option (List ℕ)) → Appends a b [] → Keeps a b
 Keeps-of None b is = tt
@@ -76,7 +76,7 @@ module _ (project : Project) (tables : List Loaded) (out out' report report' : O
     reported = reported;
   }
   log_written (too_wide agrees wide is) agreed free = absurd (free wide)
-  log_written (contradicted clash ds are is) agreed free = absurd (clash agreed)
+  log_written (contradicted clash ds are back is) agreed free = absurd (clash agreed)
 
   width_told : EndsExtraction project tables e → IsConsistentProject project tables → IsWide project → TellsWidth out out' report report' r
   width_told (extracted agrees narrow done texts) agreed wide = absurd (narrow wide)
@@ -85,16 +85,17 @@ module _ (project : Project) (tables : List Loaded) (out out' report report' : O
     unwritten = Keeps-of out out' (subst (Appends out out') (ap (λ e. e.out) is) written);
     reported = subst (Appends report report') (ap (λ e. e.report) is) reported;
   }
-  width_told (contradicted clash ds are is) agreed wide = absurd (clash agreed)
+  width_told (contradicted clash ds are back is) agreed wide = absurd (clash agreed)
 
   contradictions_reported : EndsExtraction project tables e → (IsConsistentProject project tables → ⊥) → ReportsContradictions project tables out out' report report' r
   contradictions_reported (extracted agrees narrow done texts) clash = absurd (clash agrees)
   contradictions_reported (too_wide agrees wide is) clash = absurd (clash agrees)
-  contradictions_reported (contradicted other ds are is) clash = record {
+  contradictions_reported (contradicted other ds are back is) clash = record {
     conflict = same ∙ ap (λ e. e.status) is;
     unwritten = Keeps-of out out' (subst (Appends out out') (ap (λ e. e.out) is) written);
     derivations = ds;
     accepted = are;
+    read_back = back;
     reported = subst (Appends report report') (ap (λ e. e.report) is) reported;
   }
 
@@ -128,7 +129,7 @@ module _ (words : List (List ℕ)) (out out' report report' : Option (List ℕ))
       → (project : Project) × (tables : List Loaded) × IsAcceptedProject files p project tables × IsConsistentProject project tables × WritesLog project tables out out' report report' r
   logged files p project tables (extracted agrees narrow ok texts) same done written reported is = (project, tables, is, agrees, record { done = done; text = e.out; said = e.report; extracted = texts; written = written; reported = reported })
   logged files p project tables (too_wide agrees wide end) same done written reported is = let other : status.Done ≡ status.Limit = sym done ∙ same ∙ ap (λ e. e.status) end in absurd cc
-  logged files p project tables (contradicted clash ds are end) same done written reported is = let other : status.Done ≡ status.Conflict = sym done ∙ same ∙ ap (λ e. e.status) end in absurd cc
+  logged files p project tables (contradicted clash ds are back end) same done written reported is = let other : status.Done ≡ status.Conflict = sym done ∙ same ∙ ap (λ e. e.status) end in absurd cc
 
   -- over files that are known
   sound : (files : Files) → ComesToJob words files e → Delivers e out out' report report' r → ExtractsSoundly words files out out' report report' r

@@ -108,7 +108,7 @@ module _ (out out' report report' : Option (List ℕ)) (r : Status) (e : Ending)
       record { text = of.out; said = of.report; extracted = texts; alone = alone (first_line of.report) is }
   log_summarised project tables of (extracted agrees narrow done texts) (inr (other, is)) agreed free = absurd (other done)
   log_summarised project tables of (too_wide agrees wide is) sum agreed free = absurd (free wide)
-  log_summarised project tables of (contradicted clash ds are is) sum agreed free = absurd (clash agreed)
+  log_summarised project tables of (contradicted clash ds are back is) sum agreed free = absurd (clash agreed)
 
 module _ (words : List (List ℕ)) (written written' reported reported' : ℕ) (out out' report report' : Option (List ℕ)) (r : Status) (e : Ending) (d : Delivers e out out' report report' r)
     (write : r ≡ status.WriteFault → Rose written written') (tell : r ≡ status.ReportFault → Rose reported reported') (first : is_make words ≡ true → IsFirstEnd words [] e) where

@@ -1,6 +1,7 @@
 -- What walks that come to their job have read: the step that went on went on with what it says.
 use Rattle.std.proofs.Common.{◌≡◌, refl, sym, ◌∙◌, ap, subst, ℕ, ◌+◌, ◌≤◌, Bool, true, false, List, [], ◌∷◌, Option, Some, None, Result, Ok, Err, codes, arith, length, nat_lt, if◌then◌else◌}
 use Rattle.std.proofs.lemmas.Bool.Decides.{nat_tests}
+use Rattle.std.specs.Str.{is_utf8}
 use Rattle.outside.specs.Files.{bytes_of}
 use Rattle.line_lexer.specs.Faults.{limit_of, name_of}
 use Rattle.line_lexer.specs.declared.fault.Counted.TheVariants.{File, TablesTogether}
@@ -9,17 +10,22 @@ use Rattle.source_tables.specs.declared.fault.TableFault.{TableFault}
 use Rattle.source_tables.specs.declared.fault.TableFault.TheVariants as tf
 use Rattle.source_tables.specs.Tables.{Loaded, table_of}
 use Rattle.annotation_language.specs.Complete.{Lack, Case, Cases, Time, Activity, lack_of}
+use Rattle.conflict_checker.specs.declared.derivation.Derivation.{Derivation}
+use Rattle.derivation_text.specs.declared.fault.DerivationFault.{DerivationFault}
+use Rattle.derivation_text.specs.declared.fault.DerivationFault.TheVariants as df
+use Rattle.derivation_text.specs.Reading.{derivations_of}
 use Rattle.project_language.specs.declared.fault.ProjectFault.{ProjectFault}
 use Rattle.project_language.specs.declared.fault.ProjectFault.TheVariants as pf
 use Rattle.project_language.specs.declared.project.Project.{Project}
-use Rattle.project_language.specs.Project.{read_project}
+use Rattle.project_language.specs.Project.{bad_line, read_project}
 use Rattle.onprom_core.specs.declared.halt.Stopped.{Stopped}
 use Rattle.onprom_core.specs.declared.status.Status.TheVariants as status
-use Rattle.onprom_core.specs.Commands.{Command, Extract}
-use Rattle.onprom_core.specs.Headline.{AreTables, IsAcceptedProject, IsHeld, IsReadProject}
-use Rattle.onprom_core.specs.Lines.{limit_line}
+use Rattle.onprom_core.specs.Commands.{Command, Check, Extract, Verify}
+use Rattle.onprom_core.specs.Headline.{AreReadDerivations, AreTables, IsAcceptedProject, IsHeld, IsReadProject}
+use Rattle.onprom_core.specs.Lines.{limit_line, line_refused}
+use Rattle.onprom_core.specs.Meaning.{mapping_names}
 use Rattle.onprom_core.specs.Steps.{Step, bind_end, goes, ◌>>=◌}
-use Rattle.onprom_core.specs.Walk.{Files, Job, Extracting, command_step, complete_step, extract_step, file_step, held_step, job_step, lack_step, loaded_step, one_table, project_step, read_step, sources_step, stop, table_step, tables_step, together_step, walk}
+use Rattle.onprom_core.specs.Walk.{Files, Job, Checking, Extracting, Verifying, check_step, command_step, complete_step, extract_step, file_step, held_step, job_step, lack_step, loaded_step, one_table, project_step, read_step, sources_step, spell_step, spelled_step, stop, table_step, tables_step, together_step, verify_step, walk}
 
 -- a step behind a step: both went on
 pub back : {A B : Type 0} (m : Step A) (f : A → Step B) (w : B) → (m >>= f).end ≡ Ok w → (v : A) × (m.end ≡ Ok v) × ((f v).end ≡ Ok w)
@@ -82,6 +88,23 @@ lack_back p project v (Some (Cases line)) e = absurd cc
 lack_back p project v (Some (Time line)) e = absurd cc
 lack_back p project v (Some (Activity line)) e = absurd cc
 
+-- a text of derivations went on: it is UTF-8, and they are read of it
+spelled_back : (d : List ℕ) (ds : List Derivation) (o : Result (List Derivation) DerivationFault) → (spelled_step d o).end ≡ Ok ds → o ≡ Ok ds
+spelled_back d ds (Ok found) e = cc
+spelled_back d ds (Err (df.Syntax line)) e = absurd cc
+spelled_back d ds (Err (df.Unknown line)) e = absurd cc
+spelled_back d ds (Err (df.BadStep line)) e = absurd cc
+spelled_back d ds (Err df.TooLong) e = absurd cc
+spelled_back d ds (Err df.NoMemory) e = absurd cc
+
+spell_back : (project : Project) (d bytes : List ℕ) (ds : List Derivation) → (spell_step project d bytes).end ≡ Ok ds → (is_utf8 bytes ≡ true) × (derivations_of (mapping_names project) bytes ≡ Ok ds)
+spell_back project d bytes ds = at (is_utf8 bytes) refl
+  where
+    at : (t : Bool) → is_utf8 bytes ≡ t → (if t then spelled_step d (derivations_of (mapping_names project) bytes) else stop status.Refused (line_refused d (bad_line bytes) (codes "NotUtf8"))).end ≡ Ok ds
+        → (is_utf8 bytes ≡ true) × (derivations_of (mapping_names project) bytes ≡ Ok ds)
+    at true is e = (is, spelled_back d ds (derivations_of (mapping_names project) bytes) e)
+    at false is e = absurd cc
+
 -- what a table was read from
 abbrev OneTable : Files → ℕ → TableDecl → Loaded × ℕ → Type 0
 OneTable files before decl read = (bytes : List ℕ) × IsHeld files decl.file bytes × (before + length bytes ≤ limit_of TablesTogether) × (table_of decl bytes ≡ Ok read.0) × (read.1 ≡ before + length bytes)
@@ -139,3 +162,28 @@ accepted files p job e =
     let loaded : (sources_step files b.0).end ≡ Ok d.0 = subst (λ x. (sources_step files x).end ≡ Ok d.0) (sym l.1) d.1 in
     let is_job : job ≡ Extracting c.0 d.0 = cc in
     (b.0, d.0, record { read = project_back files p b.0 d.0 b.1 loaded; complete = l.0 }, is_job ∙ ap (λ x. Extracting x d.0) (sym l.1))
+
+-- the walk of `check` comes to the job of a project that is read
+pub checked : (files : Files) (p : List ℕ) (job : Job) → (walk (codes "check" ∷ p ∷ []) files).end ≡ Ok job
+    → (project : Project) × (tables : List Loaded) × IsReadProject files p project tables × (job ≡ Checking project tables)
+unfolding check_step
+checked files p job e =
+    let f : (check_step files p).end ≡ Ok job = job_back files (codes "check" ∷ p ∷ []) (Check p) job refl e in
+    let b = back (project_step files p) _ job f in
+    let d = back (sources_step files b.0) _ job b.2 in
+    let is_job : job ≡ Checking b.0 d.0 = cc in
+    (b.0, d.0, project_back files p b.0 d.0 b.1 d.1, is_job)
+
+-- the walk of `verify` comes to the job of a project and derivations that are read
+pub verified : (files : Files) (p d : List ℕ) (job : Job) → (walk (codes "verify" ∷ p ∷ d ∷ []) files).end ≡ Ok job
+    → (project : Project) × (tables : List Loaded) × (ds : List Derivation) × IsReadProject files p project tables × AreReadDerivations files project d ds × (job ≡ Verifying project tables ds)
+unfolding verify_step
+verified files p d job e =
+    let f : (verify_step files p d).end ≡ Ok job = job_back files (codes "verify" ∷ p ∷ d ∷ []) (Verify p d) job refl e in
+    let b = back (project_step files p) _ job f in
+    let t = back (sources_step files b.0) _ job b.2 in
+    let h = back (file_step files d) _ job t.2 in
+    let s = back (spell_step b.0 d h.0) _ job h.2 in
+    let r = spell_back b.0 d h.0 s.0 s.1 in
+    let is_job : job ≡ Verifying b.0 t.0 s.0 = cc in
+    (b.0, t.0, s.0, project_back files p b.0 t.0 b.1 t.1, record { bytes = h.0; held = held_back files d h.0 h.1; utf8 = r.0; read = r.1 }, is_job)

@@ -31,7 +31,7 @@ use Rattle.onprom_core.specs.declared.status.Status.TheVariants as status
 use Rattle.onprom_core.specs.Lines.{limit_line, named_line}
 use Rattle.onprom_core.specs.Delivery.{IsFirstEnd}
 use Rattle.onprom_core.specs.Jobs.{Ending, printed}
-use Rattle.onprom_core.specs.Meaning.{AnswerAs, AreAccepted, AreContradictions, IsConsistentProject, IsExtracted, IsTooWideToAnswer, IsTooWideToRewrite, IsWide, certain, contradicted_lines, mapping_names, spelled, tbox}
+use Rattle.onprom_core.specs.Meaning.{AnswerAs, AreAccepted, AreContradictions, IsConsistentProject, IsExtracted, IsReadBack, IsTooWideToAnswer, IsTooWideToRewrite, IsWide, certain, contradicted_lines, mapping_names, spelled, tbox}
 use Rattle.onprom_core.specs.Walk.{Files}
 
 -- the file is held, and not too long
@@ -73,6 +73,7 @@ pub record ReportsContradictions (project : Project) (tables : List Loaded) (out
   pub unwritten : Keeps out out'
   pub derivations : List Derivation
   pub accepted : AreContradictions project tables derivations
+  pub read_back : IsReadBack project derivations
   pub reported : Appends report report' (spelled project derivations)
 
 -- a query that the log asks has too many rewritings, and nothing was written
@@ -114,6 +115,7 @@ pub record WritesContradictions (project : Project) (tables : List Loaded) (out 
   pub conflict : result ≡ status.Conflict
   pub derivations : List Derivation
   pub accepted : AreContradictions project tables derivations
+  pub read_back : IsReadBack project derivations
   pub written : Appends out out' (spelled project derivations)
   pub reported : Appends report report' (contradicted_lines derivations)
 
@@ -125,6 +127,12 @@ Checks words files faults faults' written written' reported reported' out out' r
     → IsQuiet faults faults' written written' reported reported' → result ≢ status.NoMemory
     → (IsConsistentProject project tables → TellsConsistency out out' report report' result)
     × ((IsConsistentProject project tables → ⊥) → WritesContradictions project tables out out' report report' result)
+
+-- what is done told of a project that is read that nothing contradicts it
+abbrev pub ChecksSoundly : List (List ℕ) → Files → (out out' report report' : Option (List ℕ)) → Status → Type 0
+ChecksSoundly words files out out' report report' result =
+    (p : List ℕ) → words ≡ codes "check" ∷ p ∷ [] → result ≡ status.Done
+    → (project : Project) × (tables : List Loaded) × IsReadProject files p project tables × IsConsistentProject project tables × TellsConsistency out out' report report' result
 
 -- the text of the file is that of these derivations, by the names of the project's mappings
 pub record AreReadDerivations (files : Files) (project : Project) (d : List ℕ) (ds : List Derivation) : Type 0 where
@@ -158,6 +166,13 @@ Verifies words files faults faults' written written' reported reported' out out'
     → IsQuiet faults faults' written written' reported reported' → result ≢ status.NoMemory
     → (AreAccepted project tables ds → TellsAccepted ds out out' report report' result)
     × ((AreAccepted project tables ds → ⊥) → TellsRefused project tables ds out out' report report' result)
+
+-- what is done told of a project and derivations that are read that all of these are accepted
+abbrev pub VerifiesSoundly : List (List ℕ) → Files → (out out' report report' : Option (List ℕ)) → Status → Type 0
+VerifiesSoundly words files out out' report report' result =
+    (p d : List ℕ) → words ≡ codes "verify" ∷ p ∷ d ∷ [] → result ≡ status.Done
+    → (project : Project) × (tables : List Loaded) × (ds : List Derivation) × IsReadProject files p project tables × AreReadDerivations files project d ds
+    × AreAccepted project tables ds × TellsAccepted ds out out' report report' result
 
 -- the certain answers were written in increasing order, one line for each, and their count was reported
 pub record WritesAnswers (project : Project) (tables : List Loaded) (q : Query) (out out' report report' : Option (List ℕ)) (result : Status) : Type 0 where

@@ -21,7 +21,7 @@ use Rattle.onprom_core.specs.declared.status.Status.{Status}
 use Rattle.onprom_core.specs.declared.status.Status.TheVariants as status
 use Rattle.onprom_core.specs.declared.halt.Stopped.{Stopped}
 use Rattle.onprom_core.specs.Lines.{limit_line, named_line}
-use Rattle.onprom_core.specs.Meaning.{AnswerAs, AreAccepted, AreContradictions, IsConsistentProject, IsExtracted, IsTooWideToAnswer, IsTooWideToRewrite, IsWide, certain, contradicted_lines, spelled, tbox}
+use Rattle.onprom_core.specs.Meaning.{AnswerAs, AreAccepted, AreContradictions, IsConsistentProject, IsExtracted, IsReadBack, IsTooWideToAnswer, IsTooWideToRewrite, IsWide, certain, contradicted_lines, spelled, tbox}
 use Rattle.onprom_core.specs.Walk.{Job, Extracting, Checking, Verifying, Answering, Rewriting, Making, extract_step}
 
 -- a status with what is written for it
@@ -46,7 +46,7 @@ clash_end project ds = record { status = status.Conflict; out = []; report = spe
 pub data EndsExtraction (project : Project) (tables : List Loaded) (e : Ending) : Type 0 where
   extracted : IsConsistentProject project tables → (IsWide project → ⊥) → e.status ≡ status.Done → IsExtracted project tables e.out e.report → EndsExtraction project tables e
   too_wide : IsConsistentProject project tables → IsWide project → e ≡ wide_end → EndsExtraction project tables e
-  contradicted : (IsConsistentProject project tables → ⊥) → (ds : List Derivation) → AreContradictions project tables ds → e ≡ clash_end project ds → EndsExtraction project tables e
+  contradicted : (IsConsistentProject project tables → ⊥) → (ds : List Derivation) → AreContradictions project tables ds → IsReadBack project ds → e ≡ clash_end project ds → EndsExtraction project tables e
 
 abbrev pub consistent_end : Ending
 consistent_end = record { status = status.Done; out = []; report = codes "consistent\n" }
@@ -58,7 +58,7 @@ contradicted_end project ds = record { status = status.Conflict; out = spelled p
 -- `check`
 pub data EndsCheck (project : Project) (tables : List Loaded) (e : Ending) : Type 0 where
   consistent : IsConsistentProject project tables → e ≡ consistent_end → EndsCheck project tables e
-  contradicted : (IsConsistentProject project tables → ⊥) → (ds : List Derivation) → AreContradictions project tables ds → e ≡ contradicted_end project ds → EndsCheck project tables e
+  contradicted : (IsConsistentProject project tables → ⊥) → (ds : List Derivation) → AreContradictions project tables ds → IsReadBack project ds → e ≡ contradicted_end project ds → EndsCheck project tables e
 
 abbrev pub accepted_end : List Derivation → Ending
 accepted_end ds = record { status = status.Done; out = []; report = named_line (codes "accepted ") (decimal (length ds)) (codes "\n") }

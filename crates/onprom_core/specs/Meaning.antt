@@ -1,6 +1,7 @@
 -- What a project and its tables mean: axioms and constraints, facts, certain answers, consistency, the log and the contradictions.
-use Rattle.std.specs.Prelude.{◌≡◌, ◌↔◌, ℕ, List, length, map, codes, decimal}
+use Rattle.std.specs.Prelude.{◌≡◌, ◌↔◌, ℕ, true, List, length, map, codes, decimal, Ok}
 use Rattle.std.specs.List.{flat_map}
+use Rattle.std.specs.Str.{is_utf8}
 use Rattle.vocabulary.specs.Lists.{In}
 use Rattle.vocabulary.specs.declared.term.Fact.{Fact}
 use Rattle.vocabulary.specs.declared.term.Term.{Term}
@@ -23,6 +24,7 @@ use Rattle.log_assembly.specs.TheReport.{IsReport}
 use Rattle.conflict_checker.specs.declared.derivation.Derivation.{Derivation}
 use Rattle.conflict_checker.specs.Derivations.{IsAccepted}
 use Rattle.consistency_check.specs.Contradictions.{AreContradictions as ContradictionsOf}
+use Rattle.derivation_text.specs.Reading.{derivations_of}
 use Rattle.derivation_text.specs.Writing.{derivations_text}
 use Rattle.onprom_core.specs.Lines.{named_line}
 use Rattle.project_language.specs.declared.project.Project.{Project}
@@ -77,6 +79,11 @@ mapping_names project = map (λ m. m.name) project.sources.mappings
 -- the text of derivations, by the names of the project's mappings
 abbrev pub spelled : Project → List Derivation → List ℕ
 spelled project ds = derivations_text (mapping_names project) ds
+
+-- that text is UTF-8, and it is read as just these derivations
+pub record IsReadBack (project : Project) (ds : List Derivation) : Type 0 where
+  pub utf8 : is_utf8 (spelled project ds) ≡ true
+  pub read : derivations_of (mapping_names project) (spelled project ds) ≡ Ok ds
 
 -- `contradicted C` for each
 abbrev pub contradicted_lines : List Derivation → List ℕ

@@ -1,7 +1,7 @@
 //! The job of `check`.
-ghost use Rattle.std.specs.Prelude.{◌≡◌, ◌≤◌, true, length, IfOk};
+ghost use Rattle.std.specs.Prelude.{◌≡◌, ◌≤◌, true, length, IfOk, OnOk};
 ghost use Rattle.onprom_core.specs.Jobs.{EndsCheck, consistent_end, contradicted_end};
-ghost use Rattle.onprom_core.specs.Meaning.{AreContradictions, contradicted_lines};
+ghost use Rattle.onprom_core.specs.Meaning.{AreContradictions, IsReadBack, contradicted_lines};
 ghost use Rattle.onprom_core.specs.Outputs.{EndsWell, ended};
 ghost use Rattle.project_language.specs.Sound.{IsSound};
 
@@ -56,6 +56,7 @@ fn contradicted(
     requires contradictions { AreContradictions project.now tables.now found.now }
     requires some { 1 ≤ length found.now }
     ensures end { IfOk result (λ o. ended o ≡ contradicted_end project.now found.now) }
+    ensures read_back { OnOk result (IsReadBack project.now found.now) }
     ensures well { IfOk result (EndsWell true) }
 {
     let report = contradicted_lines(alloc, found)?;

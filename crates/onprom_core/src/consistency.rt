@@ -1,6 +1,6 @@
 //! What the tables of a project contradict.
-ghost use Rattle.std.specs.Prelude.{◌≡◌, ◌<◌, ◌≤◌, ◌-◌, ◌^◌, length, All, IfOk};
-ghost use Rattle.onprom_core.specs.Meaning.{AreContradictions, spelled, tbox as tbox_of};
+ghost use Rattle.std.specs.Prelude.{◌≡◌, ◌<◌, ◌≤◌, ◌-◌, ◌^◌, length, All, IfOk, OnOk};
+ghost use Rattle.onprom_core.specs.Meaning.{AreContradictions, IsReadBack, spelled, tbox as tbox_of};
 ghost use Rattle.project_language.specs.Sound.{IsSound};
 
 use conflict_checker::Derivation;
@@ -46,9 +46,13 @@ pub(crate) fn spelled(
     requires sound { IsSound project.now }
     requires contradictions { AreContradictions project.now tables.now found.now }
     requires some { 1 ≤ length found.now }
-    ensures { IfOk result (λ text. text ≡ spelled project.now found.now) }
+    ensures text { IfOk result (λ text. text ≡ spelled project.now found.now) }
+    ensures read_back { OnOk result (IsReadBack project.now found.now) }
 {
     have_few_rows(tables);
     accepted_is_well_formed();
-    write(alloc, found, project.sources.mappings())
+    let text = write(alloc, found, project.sources.mappings())?;
+    // a text is UTF-8
+    let _ = text.text();
+    Ok(text)
 }

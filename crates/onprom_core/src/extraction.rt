@@ -1,9 +1,9 @@
 //! The job of `extract`.
-ghost use Rattle.std.specs.Prelude.{◌≡◌, ◌≤◌, false, length, IfOk};
+ghost use Rattle.std.specs.Prelude.{◌≡◌, ◌≤◌, false, length, IfOk, OnOk};
 ghost use Rattle.log_assembly.specs.Answered.{IsInOrder};
 ghost use Rattle.onprom_core.specs.Extracted.{ExtractedFrom};
 ghost use Rattle.onprom_core.specs.Jobs.{EndsExtraction, clash_end};
-ghost use Rattle.onprom_core.specs.Meaning.{AreContradictions, IsConsistentProject, tbox as tbox_of};
+ghost use Rattle.onprom_core.specs.Meaning.{AreContradictions, IsConsistentProject, IsReadBack, tbox as tbox_of};
 ghost use Rattle.onprom_core.specs.Outputs.{EndsWell, ended};
 ghost use Rattle.project_language.specs.Sound.{IsSound};
 
@@ -50,6 +50,7 @@ fn contradicted(
     requires contradictions { AreContradictions project.now tables.now found.now }
     requires some { 1 ≤ length found.now }
     ensures end { IfOk result (λ o. ended o ≡ clash_end project.now found.now) }
+    ensures read_back { OnOk result (IsReadBack project.now found.now) }
     ensures well { IfOk result (EndsWell false) }
 {
     let text = spelled(alloc, project, tables, found)?;

@@ -1,4 +1,8 @@
 //! The top call: words in, a status out, and what is written on the way.
+//!
+//! [`run`] is the one call, and its contract is the promise of the tool: a clause for each command in plain words
+//! (`headline` and `sound`, `checks`, `verifies`, `answers`, `rewrites`, `makes`), over `specs/Headline`. `specs/Walk`
+//! has what is read in which order, and `specs/Jobs` what is done with it.
 #![tactic(auto)]
 
 mod answering;

@@ -5,7 +5,7 @@ ghost use Rattle.outside.specs.Counts.{Rose};
 ghost use Rattle.onprom_core.specs.Causes.{IsWhole};
 ghost use Rattle.onprom_core.specs.Commands.{is_make};
 ghost use Rattle.onprom_core.specs.Delivery.{EndsAs, EndsCut, EndsReporting, EndsEarly, ReportsFault, NamesFile, KeepsOut, Completes, AnswersNoCommand};
-ghost use Rattle.onprom_core.specs.Headline.{Answers, Checks, Extracts, ExtractsSoundly, Makes, Rewrites, Verifies};
+ghost use Rattle.onprom_core.specs.Headline.{Answers, Checks, ChecksSoundly, Extracts, ExtractsSoundly, Makes, Rewrites, Verifies, VerifiesSoundly};
 ghost use Rattle.onprom_core.specs.Lines.{absent_line, fault_line, usage_line};
 ghost use Rattle.onprom_core.specs.Walk.{walk, IsNoCommand};
 
@@ -33,6 +33,12 @@ pub fn run<S: Shelf, O: Sink, R: Sink>(
         (O.written out.old) (O.written out.new) (R.written report.old) (R.written report.new) result) }
     // An extraction that is done wrote the one log of an accepted project that nothing contradicts.
     ensures sound { IfSome (S.held shelf.old) (λ files. ExtractsSoundly words.now files
+        (O.written out.old) (O.written out.new) (R.written report.old) (R.written report.new) result) }
+    // A check that is done told of a project that is read and that nothing contradicts.
+    ensures checks_soundly { IfSome (S.held shelf.old) (λ files. ChecksSoundly words.now files
+        (O.written out.old) (O.written out.new) (R.written report.old) (R.written report.new) result) }
+    // A verification that is done told of derivations that are read and accepted.
+    ensures verifies_soundly { IfSome (S.held shelf.old) (λ files. VerifiesSoundly words.now files
         (O.written out.old) (O.written out.new) (R.written report.old) (R.written report.new) result) }
     // The promise of `check`: what contradicts a project that is read.
     ensures checks { IfSome (S.held shelf.old) (λ files. Checks words.now files

@@ -1,7 +1,7 @@
 use Rattle.onprom_core.specs.Shown.{shown}
 use Rattle.onprom_core.proofs.Ends.{ends_from, written_from, reporting_from, early_from, faulted_from, complete_from}
 use Rattle.onprom_core.proofs.Headlines.{extracts_from, sound_from}
-use Rattle.onprom_core.proofs.Judging.{checks_from, verifies_from}
+use Rattle.onprom_core.proofs.Judging.{checks_from, checks_soundly_from, verifies_from, verifies_soundly_from}
 use Rattle.onprom_core.proofs.MadeFiles.{makes_from}
 use Rattle.onprom_core.proofs.Asking.{answers_from, rewrites_from}
 use Rattle.onprom_core.proofs.top.run.Goals as goal
@@ -96,3 +96,13 @@ returns-in-Ok-clause-makes g c =
     (g.O.Sink.faults c.args.out.now) (g.O.Sink.faults c.deliver.new.out) (g.R.Sink.faults c.args.report.now) (g.R.Sink.faults c.deliver.new.report)
     (g.O.Sink.written c.args.out.now) (g.O.Sink.written c.deliver.new.out) (g.R.Sink.written c.args.report.now) (g.R.Sink.written c.deliver.new.report)
     c.deliver.result (shown c.in-Ok.decided) c.deliver.ensures.delivered c.deliver.ensures.write c.deliver.ensures.report c.in-Ok.ensures.made
+
+pub returns-in-Ok-clause-checks_soundly : goal.returns-in-Ok-clause-checks_soundly
+returns-in-Ok-clause-checks_soundly g c =
+    checks_soundly_from c.args.words.now (g.O.Sink.written c.args.out.now) (g.O.Sink.written c.deliver.new.out) (g.R.Sink.written c.args.report.now) (g.R.Sink.written c.deliver.new.report)
+    c.deliver.result (shown c.in-Ok.decided) (g.S.Shelf.held c.args.shelf.now) c.in-Ok.ensures.job c.deliver.ensures.delivered
+
+pub returns-in-Ok-clause-verifies_soundly : goal.returns-in-Ok-clause-verifies_soundly
+returns-in-Ok-clause-verifies_soundly g c =
+    verifies_soundly_from c.args.words.now (g.O.Sink.written c.args.out.now) (g.O.Sink.written c.deliver.new.out) (g.R.Sink.written c.args.report.now) (g.R.Sink.written c.deliver.new.report)
+    c.deliver.result (shown c.in-Ok.decided) (g.S.Shelf.held c.args.shelf.now) c.in-Ok.ensures.job c.deliver.ensures.delivered
