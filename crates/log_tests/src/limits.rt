@@ -199,38 +199,6 @@ fn a_file_passes_a_limit(rt: HostRuntime) -> Result<(), Fail> {
     Ok(())
 }
 
-// Four tables of one file, which is read for each, have together what they may have.
-const FOUR: &str = "onprom 1
-table t1 \"long\"
-table t2 \"long\"
-table t3 \"long\"
-table t4 \"long\"
-";
-
-const FIFTH: &str = "table t5 \"short\"\n";
-
-fn shelf_of_long(alloc: Global, project: &str) -> Result<SureShelf, AllocError> {
-    let text = long(alloc, b"")?;
-    let mut shelf = shelf_of(alloc, "", &[("p", project), ("short", "a")])?;
-    if !shelf.holds("long") {
-        shelf.add_file("long", text.slice())?;
-    }
-    Ok(shelf)
-}
-
-fn together_tell(alloc: Global, project: &str, want: &str) -> Result<bool, AllocError> {
-    let mut shelf = shelf_of_long(alloc, project)?;
-    tells(alloc, &mut shelf, "check p", want)
-}
-
-#[test]
-fn tables_together_pass_a_limit(rt: HostRuntime) -> Result<(), Fail> {
-    let five = format!(in rt.alloc(); "{FOUR}{FIFTH}")?;
-    assert!(rt; together_tell(rt.alloc(), FOUR, "0\n--\nconsistent")?);
-    assert!(rt; together_tell(rt.alloc(), five.as_str(), "8\n--\nlimit: tables together")?);
-    Ok(())
-}
-
 // Subclasses of two classes, which a query asks together: it reaches each pair.
 const WIDE: &str = "onprom 1
 table t \"t.csv\"
