@@ -1,7 +1,7 @@
 //! Contradictions: `check`, and `verify` of what it writes and of what it does not.
 use crate::cases::{changed, holds, shelf_of, tells, words_of};
 use onprom_core::{Status, run};
-use outside::{Bytes, Shelf, SureShelf, SureSink};
+use outside::{Bytes, SureShelf, SureSink};
 use std::alloc::{AllocError, Global};
 use std::test::Fail;
 

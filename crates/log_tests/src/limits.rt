@@ -2,7 +2,7 @@
 use crate::cases::{changed, repeated, shelf_of, tells, tells_over, words_of};
 use crate::conflicts::has_no_log;
 use onprom_core::{Status, run};
-use outside::{Bytes, Shelf, SureShelf, SureSink};
+use outside::{Bytes, SureShelf, SureSink};
 use std::alloc::{AllocError, Global};
 use std::test::Fail;
 
