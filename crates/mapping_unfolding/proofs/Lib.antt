@@ -4,5 +4,6 @@ pub mod Cells
 pub mod Equating
 pub mod Extending
 pub mod Finishing
+mod Samples
 pub mod Texts
 pub mod Whole
