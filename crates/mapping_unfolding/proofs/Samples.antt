@@ -1,8 +1,7 @@
 -- The unfolding of small queries over two mappings of one link.
-use Rattle.std.proofs.Common.{◌≡◌, refl, sym, subst, ap, ◌∙◌, arith, ℕ, List, [], ◌∷◌, Some, codes, All}
+use Rattle.std.proofs.Common.{◌≡◌, refl, sym, subst, ap, ◌∙◌, arith, ℕ, List, [], ◌∷◌, Some, codes}
 use Rattle.vocabulary.specs.declared.ids.LinkId.{LinkId}
 use Rattle.vocabulary.specs.declared.ids.ValueKind.TheVariants.{Text}
-use Rattle.vocabulary.specs.declared.ids.VarId.{VarId}
 use Rattle.vocabulary.specs.declared.term.Term.{Term, Named}
 use Rattle.vocabulary.specs.declared.term.Fact.{Fact}
 use Rattle.vocabulary.specs.declared.term.Fact.TheVariants.{InClass as ClassFact, Linked as LinkFact}

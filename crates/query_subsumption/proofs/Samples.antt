@@ -1,8 +1,5 @@
 -- The definitions, at small queries.
-use Rattle.std.proofs.Common.{◌≡◌, ◌≢◌, ◌∙◌, refl, sym, subst, ap, arith, ℕ, zero, suc, ◌<◌, List, [], ◌∷◌, get_or, length, slice_get, Option, Some, ◌⊎◌, inl, inr}
-use Rattle.vocabulary.specs.declared.ids.ClassId.{ClassId}
-use Rattle.vocabulary.specs.declared.ids.LinkId.{LinkId}
-use Rattle.vocabulary.specs.declared.ids.VarId.{VarId}
+use Rattle.std.proofs.Common.{◌≡◌, ◌≢◌, ◌∙◌, refl, sym, subst, ap, arith, ℕ, zero, suc, ◌<◌, List, [], ◌∷◌, get_or, length, slice_get, Some, ◌⊎◌, inl, inr}
 use Rattle.vocabulary.specs.declared.term.Term.{Named}
 use Rattle.vocabulary.specs.Lists.{In, here, there}
 use Rattle.queries.specs.declared.query.Arg.{Arg}
@@ -10,7 +7,9 @@ use Rattle.queries.specs.declared.query.Arg.TheVariants.{Blank, Var, Fixed}
 use Rattle.queries.specs.declared.query.Atom.{Atom}
 use Rattle.queries.specs.declared.query.Atom.TheVariants.{InClass, Linked}
 use Rattle.queries.specs.declared.query.Query.{Query}
-use Rattle.query_subsumption.specs.Subsumption.{AreKept, IsDropped, IsMapping, MapsInto, Replacement, apart, atom_image, past_arg}
+use Rattle.queries.specs.Occurrences.{count, head_count}
+use Rattle.query_subsumption.specs.Images.{AreImages, numbers, told}
+use Rattle.query_subsumption.specs.Subsumption.{AreKept, IsDropped, MapsInto, Replacement, apart, atom_image, first_free, past_arg}
 
 abbrev in_class : ℕ → Arg → Atom
 in_class n x = InClass (record { 0 = n }) x
@@ -182,3 +181,34 @@ both_kept = inr (first, of_class 1 ∷ [], refl, inr (second, [], refl, refl))
 
 none_kept : AreKept [] []
 none_kept = refl
+
+-- the images of x, of no variable, of z and of the Blank, which goes to a Blank of the other query and is told as one
+abbrev general : Query
+general = query (var 0 ∷ []) (in_class 0 (var 0) ∷ linked (var 2) Blank ∷ [])
+
+abbrev special : Query
+special = query (var 1 ∷ []) (linked constant Blank ∷ in_class 0 (var 1) ∷ [])
+
+abbrev sent : List Arg
+sent = var 1 ∷ Blank ∷ constant ∷ var 2 ∷ []
+
+images : AreImages general special (var 1 ∷ Blank ∷ constant ∷ Blank ∷ [])
+images = record { θ = to sent; maps = record { heads = refl; atoms = goes }; size = refl; each = each; unused = λ v. unused v.0 }
+  where
+    goes : (k : Atom) → In k (apart general).atoms → In (atom_image (to sent) k) (apart special).atoms
+    goes k (here e) = rw (← e) (there (here refl))
+    goes k (there (here e)) = rw (← e) (here refl)
+    goes k (there (there m)) = elim m [ ]
+
+    each : (n : ℕ) → n < numbers general → slice_get (var 1 ∷ Blank ∷ constant ∷ Blank ∷ []) n ≡ Some (told (first_free special) (to sent (record { 0 = n })))
+    each zero l = refl
+    each (suc zero) l = refl
+    each (suc (suc zero)) l = refl
+    each (suc (suc (suc zero))) l = refl
+    each (suc (suc (suc (suc n)))) l = absurd (omega (arith, l))
+
+    unused : (n : ℕ) → n < first_free general → head_count (record { 0 = n }) general.head ≡ 0 → count (record { 0 = n }) general.atoms ≡ 0 → to sent (record { 0 = n }) ≡ Blank
+    unused zero l h c = absurd (omega (arith, h))
+    unused (suc zero) l h c = refl
+    unused (suc (suc zero)) l h c = absurd (omega (arith, c))
+    unused (suc (suc (suc n))) l h c = absurd (omega (arith, l))
