@@ -3,7 +3,9 @@ ghost use Rattle.mapping_facts.specs.Fits.{AreFit};
 
 use crate::mapped::four;
 use crate::small::table;
-use crate::within::{are_constraints_within, are_within, have_exact_sources};
+use crate::within::{
+    are_checkable, are_constraints_within, are_few, are_targets_within, are_within,
+};
 use crate::written::tbox;
 use conflict_checker::{Derivation, accepts};
 use consistency_check::conflicts;
@@ -68,7 +70,9 @@ fn are_contradicted(
         || constraints.len() > 99
         || !are_within(axioms)
         || !are_constraints_within(constraints)
-        || !have_exact_sources(axioms, constraints)
+        || !are_checkable(axioms, constraints)
+        || !are_targets_within(mappings)
+        || !are_few(mappings)
     {
         return Ok(false);
     }

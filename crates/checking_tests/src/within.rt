@@ -1,12 +1,15 @@
 //! Whether conflicts of a model may be asked for.
-ghost use Rattle.std.specs.Prelude.{IsTrue};
+ghost use Rattle.std.specs.Prelude.{◌≡◌, ◌<◌, ◌+◌, ◌^◌, length, IsTrue, IfSome};
 ghost use Rattle.vocabulary.specs.Lists.{In};
 ghost use Rattle.dllite_axioms.specs.declared.axioms.Axiom.{Axiom as AxiomOf};
 ghost use Rattle.dllite_axioms.specs.declared.axioms.Constraint.{Constraint as ConstraintOf};
 ghost use Rattle.dllite_axioms.specs.Within.{IsAxiomWithin, IsConstraintWithin, IsWithin};
-ghost use Rattle.negative_closure.specs.Sources.{HasExactSources};
+ghost use Rattle.mapping_facts.specs.declared.mapping.Mapping.{Mapping as MappingOf};
+ghost use Rattle.mapping_saturation.specs.Saturation.{AreTargetsWithin, IsTargetWithin, with_targets};
+ghost use Rattle.consistency_check.specs.Checkable.{IsCheckable};
 
 use dllite_axioms::{Axiom, Basic, Constraint};
+use mapping_facts::{Mapping, Target};
 
 fn is_within(basic: Basic) -> bool
     ensures { IsTrue result → IsWithin 400 600 basic }
@@ -61,9 +64,9 @@ pub fn are_constraints_within(constraints: &[Constraint]) -> bool
     true
 }
 
-// Of a functional link only without axioms.
-fn has_exact_sources(axioms: &[Axiom], constraint: &Constraint) -> bool
-    ensures { IsTrue result → HasExactSources axioms.now constraint.now }
+// Of a functional link only without axioms, and of no identification.
+fn is_checkable(axioms: &[Axiom], constraint: &Constraint) -> bool
+    ensures { IsTrue result → IsCheckable axioms.now constraint.now }
 {
     match constraint {
         Constraint::Disjoint(_, _) | Constraint::Apart(_, _, _) => true,
@@ -72,14 +75,66 @@ fn has_exact_sources(axioms: &[Axiom], constraint: &Constraint) -> bool
     }
 }
 
-/// Of functional links only without axioms.
-pub fn have_exact_sources(axioms: &[Axiom], constraints: &[Constraint]) -> bool
-    ensures { IsTrue result → (k : ConstraintOf) → In k constraints.now → HasExactSources axioms.now k }
+/// Functional links only without axioms, and no identifications.
+pub fn are_checkable(axioms: &[Axiom], constraints: &[Constraint]) -> bool
+    ensures { IsTrue result → (k : ConstraintOf) → In k constraints.now → IsCheckable axioms.now k }
 {
     for constraint in constraints {
-        if !has_exact_sources(axioms, constraint) {
+        if !is_checkable(axioms, constraint) {
             return false;
         }
     }
     true
+}
+
+fn is_target_within(target: &Target) -> bool
+    ensures { IsTrue result → IsTargetWithin 400 600 target.now }
+{
+    match target {
+        Target::InClass(class, _) => class.0 < 400,
+        Target::Linked(link, _, _) => link.0 < 600,
+    }
+}
+
+fn are_all_within(targets: &[Target]) -> bool
+    ensures { IsTrue result → AreTargetsWithin 400 600 targets.now }
+{
+    for target in targets {
+        if !is_target_within(target) {
+            return false;
+        }
+    }
+    true
+}
+
+/// Over so many classes and links as a model may have.
+pub fn are_targets_within(mappings: &[Mapping]) -> bool
+    ensures { IsTrue result → (m : MappingOf) → In m mappings.now → AreTargetsWithin 400 600 m.targets }
+{
+    for mapping in mappings {
+        if !are_all_within(mapping.targets.items()) {
+            return false;
+        }
+    }
+    true
+}
+
+// How many targets they have together.
+fn count(mappings: &[Mapping]) -> Option<usize>
+    ensures { IfSome result (λ n. n ≡ length (with_targets mappings.now)) }
+{
+    let [first, rest @ ..] = mappings else {
+        return Some(0);
+    };
+    first.targets.len().checked_add(count(rest)?)
+}
+
+/// At most 99 mappings, and at most 99 targets of all of them.
+pub fn are_few(mappings: &[Mapping]) -> bool
+    ensures { IsTrue result → length mappings.now + length (with_targets mappings.now) < 2 ^ 32 }
+{
+    match count(mappings) {
+        Some(targets) => mappings.len() < 100 && targets < 100,
+        None => false,
+    }
 }
