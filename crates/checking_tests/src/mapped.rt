@@ -92,11 +92,15 @@ pub fn four(alloc: Global) -> Result<Vec<Mapping>, Fail>
     Ok(mappings)
 }
 
-/// And the attribute 2 leads from each a to the text of its b.
+/// The same, and the attribute 2 leads from each a to the text of its b.
 pub fn five(alloc: Global) -> Result<Vec<Mapping>, Fail>
     ensures { IfOk result (λ v. AreFit v.items) }
 {
-    let mut mappings = four(alloc)?;
+    let mut mappings = Vec::new(alloc);
+    mappings.push(gives(alloc, link(alloc, 0)?)?)?;
+    mappings.push(gives(alloc, link(alloc, 1)?)?)?;
+    mappings.push(gives(alloc, member(alloc, 0, 0)?)?)?;
+    mappings.push(gives(alloc, member(alloc, 1, 1)?)?)?;
     mappings.push(gives(alloc, attribute(alloc, 2)?)?)?;
     Ok(mappings)
 }
