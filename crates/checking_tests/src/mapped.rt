@@ -6,7 +6,7 @@ use iri_templates::Template;
 use mapping_facts::{Mapping, Place, RowTerm, SourceQuery, Target};
 use std::alloc::{AllocError, Global};
 use std::test::Fail;
-use vocabulary::{ClassId, ColId, LinkId, List, Name, TableId, ValueKind};
+use vocabulary::{ClassId, ColId, LinkId, List, Name, TableId};
 
 fn place(col: u32) -> Place
     ensures { result.table ≡ 0 }
@@ -42,15 +42,6 @@ fn link(alloc: Global, link: u32) -> Result<Target, Fail>
 {
     let from = object(alloc, 0)?;
     Ok(Target::Linked(LinkId(link), from, object(alloc, 1)?))
-}
-
-// From each a to the text of its b.
-fn attribute(alloc: Global, link: u32) -> Result<Target, Fail>
-    ensures { IfOk result (TargetFits 1) }
-{
-    let from = object(alloc, 0)?;
-    let text = RowTerm::Cell(ValueKind::Text, place(1));
-    Ok(Target::Linked(LinkId(link), from, text))
 }
 
 fn each_row(alloc: Global) -> Result<SourceQuery, AllocError>
@@ -89,18 +80,5 @@ pub fn four(alloc: Global) -> Result<Vec<Mapping>, Fail>
     mappings.push(gives(alloc, link(alloc, 1)?)?)?;
     mappings.push(gives(alloc, member(alloc, 0, 0)?)?)?;
     mappings.push(gives(alloc, member(alloc, 1, 1)?)?)?;
-    Ok(mappings)
-}
-
-/// The same, and the attribute 2 leads from each a to the text of its b.
-pub fn five(alloc: Global) -> Result<Vec<Mapping>, Fail>
-    ensures { IfOk result (λ v. AreFit v.items) }
-{
-    let mut mappings = Vec::new(alloc);
-    mappings.push(gives(alloc, link(alloc, 0)?)?)?;
-    mappings.push(gives(alloc, link(alloc, 1)?)?)?;
-    mappings.push(gives(alloc, member(alloc, 0, 0)?)?)?;
-    mappings.push(gives(alloc, member(alloc, 1, 1)?)?)?;
-    mappings.push(gives(alloc, attribute(alloc, 2)?)?)?;
     Ok(mappings)
 }
