@@ -17,7 +17,7 @@ use Rattle.fold_rewriting.specs.Folds.{Folds, unfolded, by_fold}
 use Rattle.fold_rewriting.specs.Listing.{IsTooWide}
 use Rattle.fold_rewriting.specs.Steps.{IsFold, AreFoldSteps}
 use Rattle.fold_rewriting.proofs.Gathering.{Found}
-use Rattle.fold_rewriting.proofs.Placed.{no_longer}
+use Rattle.perfect_rewriting.proofs.Placed.{no_longer}
 use Rattle.fold_rewriting.proofs.Telling.{told_step, steps_told}
 
 -- what each fold step of a query gives is among those that were found

@@ -2,7 +2,7 @@
 use Rattle.std.proofs.Common.{◌≡◌, length, arith}
 use Rattle.queries.specs.declared.query.Query.{Query}
 use Rattle.fold_rewriting.specs.Folds.{Folds}
-use Rattle.fold_rewriting.proofs.Faults.{kept_fault}
+use Rattle.perfect_rewriting.proofs.Faults.{kept_fault}
 use Rattle.fold_rewriting.proofs.Shaping.{folds_atoms, folds_head}
 use Rattle.fold_rewriting.proofs.Working.{AreFoldsOf, queries, steps_are, working_start, last_found, working_on, less_left, working_end, working_wide}
 use Rattle.fold_rewriting.proofs.members.folds_of.Goals as goal

@@ -2,7 +2,7 @@
 use Rattle.std.proofs.Common.{rules}
 use Rattle.std.proofs.lemmas.Fn.{always_returns_same}
 use Rattle.queries.specs.Order.{query_cmp}
-use Rattle.fold_rewriting.proofs.Placed.{searched}
+use Rattle.perfect_rewriting.proofs.Placed.{searched}
 use Rattle.fold_rewriting.proofs.members.place_of.Goals as goal
 
 pub returns-clause-there : goal.returns-clause-there

@@ -2,7 +2,7 @@
 use Rattle.std.proofs.Common.{◌≡◌, ◌≢◌, subst, length, arith}
 use Rattle.vocabulary.specs.Lists.{In}
 use Rattle.perfect_rewriting.specs.Listing.{IsGap}
-use Rattle.fold_rewriting.proofs.Adding.{added_none, added_one, overflows_one}
+use Rattle.perfect_rewriting.proofs.Adding.{added_none, added_one, overflows_one}
 use Rattle.fold_rewriting.proofs.members.Work.add.Goals as goal
 
 pub returns-in-Ok-clause-added : goal.returns-in-Ok-clause-added

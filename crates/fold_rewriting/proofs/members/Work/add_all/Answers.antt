@@ -1,6 +1,6 @@
 -- By `Adding`.
-use Rattle.fold_rewriting.proofs.Adding.{adding_start, adding_on, adding_wide}
-use Rattle.fold_rewriting.proofs.Faults.{kept_fault}
+use Rattle.perfect_rewriting.proofs.Adding.{adding_start, adding_on, adding_wide}
+use Rattle.perfect_rewriting.proofs.Faults.{kept_fault}
 use Rattle.fold_rewriting.proofs.Working.{queries, last_query}
 use Rattle.fold_rewriting.proofs.members.Work.add_all.Goals as goal
 

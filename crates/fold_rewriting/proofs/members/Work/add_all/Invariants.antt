@@ -1,6 +1,6 @@
 -- The queries that are left, and those that were added.
 use Rattle.std.proofs.Common.{length}
-use Rattle.fold_rewriting.proofs.Adding.{Adding}
+use Rattle.perfect_rewriting.proofs.Adding.{Adding}
 use Rattle.fold_rewriting.proofs.Working.{queries}
 use Rattle.fold_rewriting.proofs.members.Work.add_all.Given as goal
 
