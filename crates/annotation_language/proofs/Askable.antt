@@ -28,7 +28,8 @@ use Rattle.uml_model.specs.Rules.{Known, class_named, link_named}
 use Rattle.annotation_language.specs.Askable.{IsAskable}
 use Rattle.annotation_language.proofs.Judged.{rule_kept, rest_unbroken}
 use Rattle.annotation_language.proofs.Asking.{rules_by, by_its_own, few_atoms, few_heads}
-use Rattle.annotation_language.specs.Lines.{broken_query, counts, Placed, side_at, variables_of, variable, argument_of, class_atom, link_atom, or_zero, places, all_places, sides_of, atom_of, query_of}
+use Rattle.line_lexer.specs.Judging.{or_zero}
+use Rattle.annotation_language.specs.Lines.{broken_query, counts, Placed, side_at, variables_of, variable, argument_of, class_atom, link_atom, places, all_places, sides_of, atom_of, query_of}
 
 or_parts : (a b : Bool) → (a || b) ≡ false → (a ≡ false) × (b ≡ false)
 or_parts true b e = absurd (grind arith)

@@ -14,7 +14,8 @@ use Rattle.annotation_language.specs.Complete.{has_key}
 use Rattle.annotation_language.specs.Lines.{Noted, nothing, broken, grown, query_of, is_taken, is_name_side, value_side, event_named, of_event, keys_in, is_bad_key}
 use Rattle.annotation_language.specs.Reading.{read_as}
 use Rattle.annotation_language.specs.Askable.{IsAskable, AreAskable, IfAsked, OfSource, OfEvent, OfEach}
-use Rattle.annotation_language.specs.Within.{AreAskedWithin, IsQueryWithin}
+use Rattle.annotation_language.specs.Within.{AreAskedWithin}
+use Rattle.queries.specs.Within.{IsQueryWithin}
 use Rattle.annotation_language.proofs.Askable.{askable, from_map}
 use Rattle.annotation_language.proofs.WithinModel.{query_within}
 

@@ -21,7 +21,8 @@ use Rattle.annotation_language.specs.declared.notes.Rule.TheVariants.{Mandatory,
 use Rattle.annotation_language.specs.declared.notes.KeySource.TheVariants.{Fixed as FixedKey, Asked}
 use Rattle.annotation_language.specs.declared.notes.KeyNote.{KeyNote}
 use Rattle.annotation_language.specs.declared.notes.EventNote.{EventNote}
-use Rattle.annotation_language.specs.Grammar.{at_most, atom, of_one, pair, of_two, of_any, key_front, key_line, annotation_line}
+use Rattle.line_lexer.specs.Separated.{at_most}
+use Rattle.annotation_language.specs.Grammar.{atom, of_one, pair, of_two, of_any, key_front, key_line, annotation_line}
 use Rattle.line_lexer.specs.Judging.{first_broken}
 use Rattle.annotation_language.specs.Lines.{Noted, nothing, is_bad_key, read_annotation_line, broken, grown}
 

@@ -9,7 +9,8 @@ use Rattle.vocabulary.specs.declared.ids.ValueKind.TheVariants.{Text, Int, Bool 
 use Rattle.annotation_language.specs.declared.places.Placed.{Placed}
 use Rattle.annotation_language.specs.Written as written
 use Rattle.annotation_language.specs.Lines as lines
-use Rattle.annotation_language.specs.Lines.{same_kind, same_side, differ}
+use Rattle.uml_model.specs.Rules.{same_kind}
+use Rattle.annotation_language.specs.Lines.{same_side, differ}
 use Rattle.annotation_language.specs.Shown.{shown_argument}
 use Rattle.annotation_language.specs.Resolved.{shown_placed, is_of, sides_at, first_of}
 

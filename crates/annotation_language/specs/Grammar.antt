@@ -1,36 +1,13 @@
 -- The grammar of annotation lines, over the tokens of a line.
-use Rattle.std.specs.Prelude.{ℕ, zero, suc, List, [], ◌∷◌, Option, Some, None, if◌then◌else◌, length, option_map, codes}
+use Rattle.std.specs.Prelude.{ℕ, List, [], ◌∷◌, Option, Some, None, if◌then◌else◌, option_map, codes}
 use Rattle.std.specs.Str.{bytes_eq}
 use Rattle.line_lexer.specs.Tokens.{Seen}
 use Rattle.line_lexer.specs.Grammar.{◌>>=◌, either, expect, any_word, any_quoted, name, ended}
-use Rattle.vocabulary.specs.declared.ids.ValueKind.{ValueKind}
-use Rattle.vocabulary.specs.declared.ids.ValueKind.TheVariants.{Text, Int, Bool as Boolean, Time}
+use Rattle.line_lexer.specs.Separated.{separated}
+use Rattle.uml_model.specs.Lines.{kind_of}
 use Rattle.annotation_language.specs.declared.notes.Rule.{Rule}
 use Rattle.annotation_language.specs.declared.notes.Rule.TheVariants.{Mandatory, Single, Many}
 use Rattle.annotation_language.specs.Written.{Argument, Blank, Variable, Constant, Iri, Atom, One, Two, Asked, Source, Answers, Is, Line, Case, CaseName, Event, Cases, Key, Query}
-
--- one item before the others, where they are there
-abbrev pub in_front : {A : Type 0} → A → Option (List A × List Seen) → Option (List A × List Seen)
-in_front x None = None
-in_front x (Some (xs, rest)) = Some (x ∷ xs, rest)
-
--- from one to so many items with commas between; an item takes a token at least, so as many as there are tokens is no bound
-unfoldable pub at_most : {A : Type 0} → ℕ → (List Seen → Option (A × List Seen)) → List Seen → Option (List A × List Seen)
-at_most zero item tokens = None
-at_most (suc most) item tokens = item tokens >>= (λ x.
-    either (expect (codes ",") x.1) (λ rest. in_front x.0 (at_most most item rest)) (Some (x.0 ∷ [], x.1)))
-
--- one item or more, with commas between
-abbrev pub listed : {A : Type 0} → (List Seen → Option (A × List Seen)) → List Seen → Option (List A × List Seen)
-listed item tokens = at_most (length tokens) item tokens
-
--- the kind that a word names
-abbrev pub kind_of : List ℕ → Option ValueKind
-kind_of word =
-    if bytes_eq word (codes "text") then Some Text
-    else (if bytes_eq word (codes "int") then Some Int
-    else (if bytes_eq word (codes "bool") then Some Boolean
-    else (if bytes_eq word (codes "time") then Some Time else None)))
 
 -- the rule that a word names
 abbrev pub rule_of : List ℕ → Option Rule
@@ -61,7 +38,7 @@ atom tokens = do
 abbrev pub asked : List (List ℕ) → List Seen → Option Asked
 asked head tokens = do
   rest ← expect (codes "where") tokens
-  atoms ← listed atom rest
+  atoms ← separated (codes ",") atom rest
   if ended atoms.1 then Some (record { head = head; atoms = atoms.0 }) else None
 
 -- `v where ATOMS`
@@ -89,7 +66,7 @@ of_two tokens = do
 -- variables and a closing parenthesis, then `where ATOMS`
 abbrev pub of_some : List Seen → Option Asked
 of_some tokens = do
-  head ← listed name tokens
+  head ← separated (codes ",") name tokens
   rest ← expect (codes ")") head.1
   asked head.0 rest
 

@@ -14,7 +14,7 @@ use Rattle.vocabulary.specs.declared.ids.LinkId.{LinkId}
 use Rattle.vocabulary.specs.declared.ids.Side.{Side}
 use Rattle.vocabulary.specs.declared.ids.Side.TheVariants.{Object, Value}
 use Rattle.vocabulary.specs.declared.ids.ValueKind.{ValueKind}
-use Rattle.vocabulary.specs.declared.ids.ValueKind.TheVariants.{Text, Int, Bool as Boolean, Time}
+use Rattle.vocabulary.specs.declared.ids.ValueKind.TheVariants.{Text, Time}
 use Rattle.vocabulary.specs.declared.term.Term.{Named, Value as ValueTerm}
 use Rattle.iri_templates.specs.declared.fault.TemplateFault.{TemplateFault}
 use Rattle.iri_templates.specs.Templates.{Segments, hole_texts, template_of}
@@ -33,7 +33,8 @@ use Rattle.annotation_language.specs.declared.notes.Annotations.{Annotations}
 use Rattle.annotation_language.specs.Complete.{has_key}
 use Rattle.annotation_language.specs.Written.{Argument, Blank, Variable, Constant, Iri, Atom, One, Two, Asked, Source, Answers, Is, Line, Case, CaseName, Event, Cases, Key, Query}
 use Rattle.annotation_language.specs.Grammar.{annotation_line}
-use Rattle.line_lexer.specs.Judging.{first_broken, read_by}
+use Rattle.line_lexer.specs.Judging.{first_broken, read_by, or_zero, text_or_none}
+use Rattle.uml_model.specs.Rules.{same_kind}
 
 -- the variables of a query that can be asked by a name, which is `case` for the case query, in the order of their numbers
 pub record VariablesOf : Type 0 where
@@ -136,13 +137,6 @@ side_at v (Variable w) side = if bytes_eq v w then side ∷ [] else []
 side_at v (Constant text) side = []
 side_at v (Iri text) side = []
 
-abbrev pub same_kind : ValueKind → ValueKind → Bool
-same_kind Text Text = true
-same_kind Int Int = true
-same_kind Boolean Boolean = true
-same_kind Time Time = true
-same_kind k l = false
-
 abbrev pub same_side : Side → Side → Bool
 same_side Object Object = true
 same_side Object (Value k) = false
@@ -190,14 +184,6 @@ is_bad_key key rule side = is_bad_text key
     || (bytes_eq key (codes "time:timestamp") && not (same_side side (Value Time)))
     || (is_name_key key && not (is_name_side side))
     || (is_needed_key key && not (is_mandatory rule))
-
-abbrev pub or_zero : Option ℕ → ℕ
-or_zero None = 0
-or_zero (Some n) = n
-
-abbrev pub text_or_none : Option (List ℕ) → List ℕ
-text_or_none None = []
-text_or_none (Some text) = text
 
 -- the canonical text of a constant of a kind
 abbrev pub constant : ValueKind → List ℕ → List ℕ

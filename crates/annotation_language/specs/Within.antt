@@ -1,20 +1,8 @@
--- Queries over so many classes and links.
-use Rattle.std.specs.Prelude.{ℕ, ◌<◌}
-use Rattle.vocabulary.specs.Lists.{In}
-use Rattle.queries.specs.declared.query.Atom.{Atom}
-use Rattle.queries.specs.declared.query.Atom.TheVariants.{InClass, Linked}
-use Rattle.queries.specs.declared.query.Query.{Query}
+-- Annotations whose queries are over so many classes and links.
+use Rattle.std.specs.Prelude.{ℕ}
+use Rattle.queries.specs.Within.{IsQueryWithin}
 use Rattle.annotation_language.specs.Askable.{OfEach}
 use Rattle.annotation_language.specs.declared.notes.Annotations.{Annotations}
-
--- the class or the link of the atom is one of so many
-abbrev pub IsAtomWithin : ℕ → ℕ → Atom → Type 0
-IsAtomWithin classes links (InClass c a) = c.0 < classes
-IsAtomWithin classes links (Linked p a b) = p.0 < links
-
--- and so for each atom
-abbrev pub IsQueryWithin : ℕ → ℕ → Query → Type 0
-IsQueryWithin classes links q = (a : Atom) → In a q.atoms → IsAtomWithin classes links a
 
 -- of each query of the annotations
 abbrev pub AreAskedWithin : ℕ → ℕ → Annotations → Type 0

@@ -1,17 +1,17 @@
 //! The grammar of annotation lines.
-ghost use Rattle.std.specs.Prelude.{◌≡◌, map, option_map, IfOk};
+ghost use Rattle.std.specs.Prelude.{◌≡◌, map, option_map, codes, IfOk};
 ghost use Rattle.line_lexer.specs.Tokens.{seen};
-ghost use Rattle.line_lexer.specs.Grammar.{name};
+ghost use Rattle.line_lexer.specs.Separated.{separated};
 ghost use Rattle.annotation_language.specs.Shown.{shown_argument, shown_atom, shown_query, shown_source, shown};
-ghost use Rattle.annotation_language.specs.Grammar.{argument, atom, listed, asked, of_one, pair, of_two, of_some, of_any, kind_of, rule_of, fixed, source, key_front, key_line, named, annotation_line};
+ghost use Rattle.annotation_language.specs.Grammar.{argument, atom, asked, of_one, pair, of_two, of_some, of_any, rule_of, fixed, source, key_front, key_line, named, annotation_line};
 ghost use Rattle.annotation_language.specs.Written.{Case, CaseName, Event, Cases, Query};
 
 use crate::notes::Rule;
 use crate::written::{AnnotationLine, Argument, Asked, Source, WrittenAtom};
 use line_lexer::Token;
-use line_lexer::grammar::{any_quoted, any_word, ended, expect, name};
+use line_lexer::grammar::{any_quoted, any_word, ended, expect, name, names};
 use std::alloc::{AllocError, Global};
-use vocabulary::ValueKind;
+use uml_model::kind_of;
 
 fn argument<'t, 'a>(tokens: &'t [Token<'a>]) -> Option<(Argument<'a>, &'t [Token<'a>])>
     ensures { option_map (λ found. (shown_argument found.0, map seen found.1.now)) result ≡ argument (map seen tokens.now) }
@@ -57,34 +57,12 @@ fn atoms<'t, 'a>(
     alloc: Global,
     tokens: &'t [Token<'a>],
 ) -> Result<Option<(Vec<WrittenAtom<'a>>, &'t [Token<'a>])>, AllocError>
-    ensures { IfOk result (λ o. option_map (λ found. (map shown_atom found.0.items, map seen found.1.now)) o ≡ listed atom (map seen tokens.now)) }
+    ensures { IfOk result (λ o. option_map (λ found. (map shown_atom found.0.items, map seen found.1.now)) o ≡ separated (codes ",") atom (map seen tokens.now)) }
 {
     let mut found = Vec::new(alloc);
     let mut left = Cursor { rest: tokens };
     for _i in 0..tokens.len() {
         let Some((next, rest)) = atom(left.rest) else {
-            return Ok(None);
-        };
-        found.push(next)?;
-        let Some(more) = expect(",", rest) else {
-            return Ok(Some((found, rest)));
-        };
-        left.rest = more;
-    }
-    Ok(None)
-}
-
-// One name or more, with commas between.
-fn names<'t, 'a>(
-    alloc: Global,
-    tokens: &'t [Token<'a>],
-) -> Result<Option<(Vec<&'a str>, &'t [Token<'a>])>, AllocError>
-    ensures { IfOk result (λ o. option_map (λ found. (map (λ v. v.now) found.0.items, map seen found.1.now)) o ≡ listed name (map seen tokens.now)) }
-{
-    let mut found = Vec::new(alloc);
-    let mut left = Cursor { rest: tokens };
-    for _i in 0..tokens.len() {
-        let Some((next, rest)) = name(left.rest) else {
             return Ok(None);
         };
         found.push(next)?;
@@ -179,24 +157,6 @@ fn of_some<'a>(alloc: Global, tokens: &[Token<'a>]) -> Result<Option<Asked<'a>>,
         return Ok(None);
     };
     asked(alloc, head, rest)
-}
-
-fn kind_of(word: &str) -> Option<ValueKind>
-    ensures { result ≡ kind_of word.now }
-{
-    if word == "text" {
-        return Some(ValueKind::Text);
-    }
-    if word == "int" {
-        return Some(ValueKind::Int);
-    }
-    if word == "bool" {
-        return Some(ValueKind::Bool);
-    }
-    if word == "time" {
-        return Some(ValueKind::Time);
-    }
-    None
 }
 
 fn rule_of(word: &str) -> Option<Rule>

@@ -1,7 +1,8 @@
 //! The places of the atoms of a query, and the sorts that they ask.
 ghost use Rattle.std.specs.Prelude.{◌≡◌, ◌==◌, [], ◌∷◌, ◌++◌, length, map, not, IfOk, OnOk};
 ghost use Rattle.std.specs.List.{flat_map, list_any};
-ghost use Rattle.annotation_language.specs.Lines.{is_value_side, same_kind, same_side, differ};
+ghost use Rattle.uml_model.specs.Rules.{same_kind};
+ghost use Rattle.annotation_language.specs.Lines.{is_value_side, same_side, differ};
 ghost use Rattle.annotation_language.specs.Shown.{shown_argument, shown_atom};
 ghost use Rattle.annotation_language.specs.Resolved.{shown_placed, places_of, is_unknown, is_of, sides_at, first_of};
 

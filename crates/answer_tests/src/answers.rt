@@ -4,8 +4,9 @@ ghost use Rattle.mapping_facts.specs.Fits.{AreFit};
 ghost use Rattle.queries.specs.Occurrences.{HeadStands, KnownAtom, KnownConstants, atom_occurs};
 
 use crate::mapped;
+use crate::ready::ready;
 use crate::small::{in_class, linked, query, table};
-use certain_answers::{Answers, answers};
+use certain_answers::{Answers, Specification, answers};
 use dllite_axioms::{Axiom, Basic, Tbox};
 use mapping_facts::Mapping;
 use queries::{Atom, Query};
@@ -35,22 +36,39 @@ fn spell(alloc: Global, found: &Answers) -> Result<String, AllocError> {
 
 fn are_answers(
     alloc: Global,
+    specification: &Specification,
+    tables: &[Table],
+    query: &Query,
+    want: &str,
+) -> Result<bool, AllocError>
+    requires known { KnownConstants query.now }
+    requires stands { HeadStands query.now }
+    requires head { length query.now.head ≡ 1 }
+    requires few { length query.now.atoms ≤ 2 }
+{
+    match answers(alloc, specification, tables, query) {
+        Ok(found) => Ok(spell(alloc, &found)?.as_str() == want),
+        Err(_) => Ok(false),
+    }
+}
+
+// The answers under a model.
+fn answer(
+    alloc: Global,
     tbox: &Tbox,
     mappings: &[Mapping],
     tables: &[Table],
     query: &Query,
     want: &str,
-) -> Result<bool, AllocError>
+) -> Result<bool, Fail>
     requires fit { AreFit mappings.now }
     requires known { KnownConstants query.now }
     requires stands { HeadStands query.now }
     requires head { length query.now.head ≡ 1 }
     requires few { length query.now.atoms ≤ 2 }
 {
-    match answers(alloc, tbox, mappings, tables, query) {
-        Ok(found) => Ok(spell(alloc, &found)?.as_str() == want),
-        Err(_) => Ok(false),
-    }
+    let specification = ready(alloc, tbox, mappings)?;
+    Ok(are_answers(alloc, &specification, tables, query, want)?)
 }
 
 fn class(number: u32) -> Basic {
@@ -73,17 +91,17 @@ fn are_linked(
     first: Atom,
     second: Option<Atom>,
     want: &str,
-) -> Result<bool, AllocError>
+) -> Result<bool, Fail>
     requires fit { AreFit mappings.now }
     requires first { KnownAtom first }
     requires second { IfSome second KnownAtom }
     requires stands { 1 ≤ atom_occurs (record { 0 = 0 }) first }
 {
     let query = query(alloc, first, second)?;
-    are_answers(alloc, &model(alloc)?, mappings, tables, &query, want)
+    answer(alloc, &model(alloc)?, mappings, tables, &query, want)
 }
 
-// One A is so by B, one by p, and one by both; of the first ends of p one is a B.
+// One A is so by B, one by p, and one by both; of the first ends of p one is a B, and each is an A.
 #[test]
 fn subclasses_and_ends_of_links(rt: HostRuntime) -> Result<(), Fail> {
     let alloc = rt.alloc();
@@ -97,6 +115,9 @@ fn subclasses_and_ends_of_links(rt: HostRuntime) -> Result<(), Fail> {
     assert!(rt; are_linked(alloc, mappings, tables, in_class(2), None, ends)?);
     let both = Some(linked(0));
     assert!(rt; are_linked(alloc, mappings, tables, in_class(1), both, "http://e/2;")?);
+    let asked = Some(linked(0));
+    let first = "http://e/2;http://e/3;";
+    assert!(rt; are_linked(alloc, mappings, tables, in_class(0), asked, first)?);
     Ok(())
 }
 
@@ -106,14 +127,14 @@ fn are_first_ends(
     tables: &[Table],
     dir: Dir,
     want: &str,
-) -> Result<bool, AllocError>
+) -> Result<bool, Fail>
     requires { AreFit mappings.now }
 {
     let mut axioms = List::new(alloc);
     axioms.push(Axiom::SubLink(LinkId(0), dir, LinkId(1)))?;
     let tbox = Tbox::new(axioms, List::new(alloc));
     let query = query(alloc, linked(1), None)?;
-    are_answers(alloc, &tbox, mappings, tables, &query, want)
+    answer(alloc, &tbox, mappings, tables, &query, want)
 }
 
 // What p leads from, a link above p leads from, or leads to where the ends are exchanged. No mapping names it.
@@ -137,12 +158,12 @@ fn are_members(
     tables: &[Table],
     class: u32,
     want: &str,
-) -> Result<bool, AllocError>
+) -> Result<bool, Fail>
     requires { AreFit mappings.now }
 {
     let tbox = Tbox::new(List::new(alloc), List::new(alloc));
     let query = query(alloc, in_class(class), None)?;
-    are_answers(alloc, &tbox, mappings, tables, &query, want)
+    answer(alloc, &tbox, mappings, tables, &query, want)
 }
 
 // A null is equal to nothing, different from nothing, and the text of no object.
@@ -162,5 +183,50 @@ fn nulls_give_no_answers(rt: HostRuntime) -> Result<(), Fail> {
             "{class}"
         );
     }
+    Ok(())
+}
+
+// A link with a null at one end gives no class of the other.
+#[test]
+fn links_with_a_null_give_no_classes(rt: HostRuntime) -> Result<(), Fail> {
+    let alloc = rt.alloc();
+    let owned = mapped::joined(alloc)?;
+    let mappings = owned.as_slice();
+    let table = table(alloc, b"a,b\n,1\n2,\n3,4")?;
+    let tables = table.as_slice();
+    assert!(rt; are_linked(alloc, mappings, tables, in_class(0), None, "http://e/4;")?);
+    assert!(rt; are_linked(alloc, mappings, tables, in_class(2), None, "http://e/3;")?);
+    Ok(())
+}
+
+// Two classes with 70 subclasses each.
+fn with_subclasses(alloc: Global) -> Result<Tbox, AllocError> {
+    let mut axioms = List::new(alloc);
+    for sub in 0..70u8 {
+        axioms.push(Axiom::Sub(class(2 + sub as u32), class(0)))?;
+        axioms.push(Axiom::Sub(class(72 + sub as u32), class(1)))?;
+    }
+    Ok(Tbox::new(axioms, List::new(alloc)))
+}
+
+// Its rewriting has 71 times 71 members, and one fold.
+#[test]
+fn many_subclasses_are_not_too_wide(rt: HostRuntime) -> Result<(), Fail> {
+    let alloc = rt.alloc();
+    let mappings = mapped::members_of_two(alloc, 71, 141)?;
+    let tables = table(alloc, b"a,b\n2,\n1,")?;
+    let query = query(alloc, in_class(0), Some(in_class(1)))?;
+    let want = "http://e/1;http://e/2;";
+    let tbox = with_subclasses(alloc)?;
+    assert!(rt;
+        answer(
+            alloc,
+            &tbox,
+            mappings.as_slice(),
+            tables.as_slice(),
+            &query,
+            want
+        )?
+    );
     Ok(())
 }

@@ -8,6 +8,8 @@ mod joining;
 #[cfg(test)]
 mod mapped;
 #[cfg(test)]
+mod ready;
+#[cfg(test)]
 mod small;
 #[cfg(test)]
 mod unfolding;

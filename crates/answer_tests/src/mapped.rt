@@ -148,3 +148,22 @@ pub fn linked(alloc: Global) -> Result<Vec<Mapping>, Fail>
     mappings.push(at_each_row(alloc, link(alloc)?)?)?;
     Ok(mappings)
 }
+
+/// Each a is in both classes.
+pub fn members_of_two(alloc: Global, first: u32, second: u32) -> Result<Vec<Mapping>, Fail>
+    ensures { IfOk result (λ v. AreFit v.items) }
+{
+    let mut mappings = Vec::new(alloc);
+    mappings.push(at_each_row(alloc, member(alloc, first, 0)?)?)?;
+    mappings.push(at_each_row(alloc, member(alloc, second, 0)?)?)?;
+    Ok(mappings)
+}
+
+/// p leads from each b to its a.
+pub fn joined(alloc: Global) -> Result<Vec<Mapping>, Fail>
+    ensures { IfOk result (λ v. AreFit v.items) }
+{
+    let mut mappings = Vec::new(alloc);
+    mappings.push(at_each_row(alloc, link(alloc)?)?)?;
+    Ok(mappings)
+}

@@ -1,5 +1,5 @@
 -- How answers and queries are printed, computed.
-use Rattle.std.proofs.Common.{◌≡◌, refl, sym, ℕ, List, [], ◌∷◌, codes, map}
+use Rattle.std.proofs.Common.{◌≡◌, refl, sym, ℕ, List, [], ◌∷◌, codes, map, Some}
 use Rattle.std.specs.Fmt.{digits}
 use Rattle.std.specs.List.Sorted.{IsStrictlySortedBy}
 use Rattle.vocabulary.specs.Lists.{In, here, there}
@@ -11,6 +11,10 @@ use Rattle.queries.specs.declared.query.Atom.TheVariants.{InClass, Linked}
 use Rattle.queries.specs.declared.query.Query.{Query}
 use Rattle.answer_text.specs.Answers.{AreAnswers, answers_text, tuple_text}
 use Rattle.answer_text.specs.Queries.{queries_report, queries_text, query_text}
+use Rattle.answer_text.specs.Containment.{containment_text}
+use Rattle.answer_text.specs.Voids.{void_lines, voids_text}
+use Rattle.model_lint.specs.declared.element.Void.TheVariants.{Class, Link}
+use Rattle.model_lint.specs.declared.element.VoidProof.{VoidProof}
 
 answers : map tuple_text ([] ∷ (Named (codes "e:p/1") ∷ Value Text (codes "a\\b\"c\t\n\r'") ∷ []) ∷ [])
     ≡ codes "()" ∷ codes "<e:p/1> \"a\\\\b\\\"c\\t\\n\\r'\"" ∷ []
@@ -51,3 +55,17 @@ no_answer_left a = by a.tuples a.listed.each a.text
     by : (tuples : List (List Term)) → ((t : List Term) → In t tuples → ⊥) → codes "()\n" ≡ answers_text tuples → ⊥
     by [] each same = absurd cc
     by (t ∷ tuples) each same = each t (here refl)
+
+-- each A leads by p to a B, each B is a C, and nothing is both; q joins nothing
+abbrev void : List VoidProof
+void = record { what = Class (record { 0 = 0 }); constraint = 1; rules = (3, 1) ∷ (2, 2) ∷ (4, 3) ∷ []; first = 3; second = 4 }
+    ∷ record { what = Link (record { 0 = 1 }); constraint = 2; rules = []; first = 1; second = 1 } ∷ []
+
+void_text : voids_text (codes "A" ∷ codes "B" ∷ []) (codes "p" ∷ codes "q" ∷ []) void
+    ≡ codes "void class A\n1 fact\n2 rule 3 from 1\n3 rule 2 from 2\n4 rule 4 from 3\nclash 1 3 4\nvoid link q\n1 fact\nclash 2 1 1\nend\n"
+unfolding digits void_lines
+void_text = refl
+
+covered : containment_text (Some 12) ≡ codes "contained by 12\n"
+unfolding digits
+covered = refl

@@ -1,2 +1,4 @@
 pub mod Answers
 pub mod Queries
+pub mod Voids
+pub mod Containment

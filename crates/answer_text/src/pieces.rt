@@ -1,10 +1,10 @@
 //! Pieces of texts.
-ghost use Rattle.std.specs.Prelude.{◌≡◌, ◌++◌, codes, decimal, IfOk, OnOk};
+ghost use Rattle.std.specs.Prelude.{◌≡◌, ◌++◌, [], codes, decimal, get_or, IfOk, OnOk};
 ghost use Rattle.std.specs.List.{flat_map};
 ghost use Rattle.answer_text.specs.Answers.{escaped_byte, quoted};
 
 use std::alloc::{AllocError, Global};
-use vocabulary::List;
+use vocabulary::{List, Name};
 
 pub(crate) fn push(out: &mut Vec<u8>, text: &str) -> Result<(), AllocError>
     ensures { OnOk result (out.new.items ≡ out.old.items ++ text.now) }
@@ -43,14 +43,31 @@ pub(crate) fn push_quoted(out: &mut Vec<u8>, text: &str) -> Result<(), AllocErro
     push(out, "\"")
 }
 
+/// The name of this number, nothing where it has none.
+pub(crate) fn push_name(out: &mut Vec<u8>, names: &[Name], number: u32) -> Result<(), AllocError>
+    ensures { OnOk result (out.new.items ≡ out.old.items ++ get_or names.now number []) }
+{
+    match names.get(number as usize) {
+        Some(name) => push(out, name.text()),
+        None => Ok(()),
+    }
+}
+
+/// A number in decimal.
+pub(crate) fn push_number(alloc: Global, out: &mut Vec<u8>, number: u64) -> Result<(), AllocError>
+    ensures { OnOk result (out.new.items ≡ out.old.items ++ decimal number) }
+{
+    let digits = number.to_string(alloc)?;
+    push(out, digits.as_str())
+}
+
 /// The line of a word and a count.
 pub(crate) fn count_line(alloc: Global, word: &str, count: usize) -> Result<List<u8>, AllocError>
     ensures { IfOk result (λ line. line ≡ word.now ++ decimal count ++ codes "\n") }
 {
     let mut out = Vec::new(alloc);
     push(&mut out, word)?;
-    let digits = count.to_string(alloc)?;
-    push(&mut out, digits.as_str())?;
+    push_number(alloc, &mut out, count as u64)?;
     push(&mut out, "\n")?;
     Ok(List::from_vec(out))
 }

@@ -1,9 +1,9 @@
 //! The text of queries, a line for each.
-ghost use Rattle.std.specs.Prelude.{◌≡◌, ◌++◌, [], ◌∷◌, codes, get_or, map, IfOk, OnOk};
+ghost use Rattle.std.specs.Prelude.{◌≡◌, ◌++◌, [], ◌∷◌, codes, map, IfOk, OnOk};
 ghost use Rattle.answer_text.specs.Answers.{each_behind, joined};
 ghost use Rattle.answer_text.specs.Queries.{argument_text, arguments_text, atom_text, constant_text, queries_report, queries_text, query_text};
 
-use crate::pieces::{count_line, push, push_quoted};
+use crate::pieces::{count_line, push, push_name, push_quoted};
 use queries::{Arg, Atom, Query};
 use std::alloc::{AllocError, Global};
 use vocabulary::{List, Name, Term};
@@ -14,15 +14,6 @@ pub struct QueryNames<'a> {
     pub variables: &'a [Name],
     pub classes: &'a [Name],
     pub links: &'a [Name],
-}
-
-fn push_name(out: &mut Vec<u8>, names: &[Name], number: u32) -> Result<(), AllocError>
-    ensures { OnOk result (out.new.items ≡ out.old.items ++ get_or names.now number []) }
-{
-    match names.get(number as usize) {
-        Some(name) => push(out, name.text()),
-        None => Ok(()),
-    }
 }
 
 fn push_constant(out: &mut Vec<u8>, term: &Term) -> Result<(), AllocError>

@@ -1,4 +1,3 @@
 pub mod Certain
-pub mod Gained
-pub mod InOrder
-pub mod Known
+pub mod Keeping
+pub mod Readying

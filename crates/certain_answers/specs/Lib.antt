@@ -1,1 +1,2 @@
-pub mod Collected
+pub mod Lean
+pub mod Specified

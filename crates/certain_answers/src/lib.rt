@@ -1,13 +1,15 @@
 //! The certain answers of queries over mapped tables.
 //!
-//! [`answers`] is the one call: it rewrites a query under the axioms, drops the members for which others stand, unfolds
-//! what is left over the mappings, joins the row queries, and gives the tuples in order, each once, as [`Answers`].
+//! A [`Specification`] is made once of axioms and mappings, which it saturates. [`answers`] then gives the [`Answers`] of
+//! a query over tables: it folds the query under the axioms, drops what the folds ask for anyway and the folds for which
+//! others stand, and gives the images of what is left over the saturated mappings, in order, each once.
 #![tactic(auto)]
 
 mod answer_list;
 mod answering;
-mod collecting;
-mod ordering;
+mod leaning;
+mod specification;
 
 pub use answer_list::Answers;
 pub use answering::answers;
+pub use specification::Specification;

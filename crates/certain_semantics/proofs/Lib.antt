@@ -1,2 +1,3 @@
 mod Samples
+pub mod Truth
 pub mod Witnessing

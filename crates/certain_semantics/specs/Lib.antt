@@ -1,3 +1,4 @@
 pub mod Certain
 pub mod Laws
+pub mod Truth
 pub mod Witnesses

@@ -17,7 +17,7 @@ use std::test::Fail;
 
 // Axioms, constraints, rows, and the numbers of the contradicted constraints. Of each row the first is an
 // A0, the second an A1, and both links lead from the first to the second. A null is no second filler. In
-// the last the clash is on the fresh filler of each A0. Each case costs the closure of a whole model.
+// the last the clash is on the fresh filler of each A0.
 const CASES: &str = ";A0 # A1, one p0, p1 ## p0-;1,2 2,3 => 1;
 ;A0 # A1, one p0, p1 ## p0-;1,2 1,3 => 2;
 ;A0 # A1, one p0, p1 ## p0-;1,2 2,1 => 1;3;
@@ -76,7 +76,7 @@ fn are_contradicted(
     {
         return Ok(false);
     }
-    let list = conflicts(alloc, tbox, mappings, tables)?;
+    let list = conflicts(alloc, tbox, 10, 10, mappings, tables)?;
     Ok(
         are_numbers(alloc, list.items(), want)?
             && are_accepted(alloc, list.items(), tbox, mappings, tables)?,

@@ -1,9 +1,11 @@
-//! Tests of conflicts, derivations and their texts, of answers and queries as they are printed, and of the
+//! Tests of conflicts, derivations and their texts, derivations of known facts, of answers and queries as they are printed, and of the
 //! made project.
 #![tactic(auto)]
 
 #[cfg(test)]
 mod accepting;
+#[cfg(test)]
+mod derived;
 #[cfg(test)]
 mod finding;
 #[cfg(test)]

@@ -1,12 +1,12 @@
 //! Mappings over one small table.
-ghost use Rattle.std.specs.Prelude.{◌≡◌, ◌≤◌, length, IfOk};
+ghost use Rattle.std.specs.Prelude.{◌≡◌, ◌<◌, ◌+◌, length, IfOk, OnOk};
 ghost use Rattle.mapping_facts.specs.Fits.{AreFit, MappingFits, QueryFits, TargetFits, TermFits};
 
 use iri_templates::Template;
 use mapping_facts::{Mapping, Place, RowTerm, SourceQuery, Target};
 use std::alloc::{AllocError, Global};
 use std::test::Fail;
-use vocabulary::{ClassId, ColId, LinkId, List, Name, TableId};
+use vocabulary::{ClassId, ColId, LinkId, List, Name, TableId, ValueKind};
 
 fn place(col: u32) -> Place
     ensures { result.table ≡ 0 }
@@ -44,6 +44,15 @@ fn link(alloc: Global, link: u32) -> Result<Target, Fail>
     Ok(Target::Linked(LinkId(link), from, object(alloc, 1)?))
 }
 
+// From each a to the text of its b.
+fn attribute(alloc: Global, link: u32) -> Result<Target, Fail>
+    ensures { IfOk result (TargetFits 1) }
+{
+    let from = object(alloc, 0)?;
+    let text = RowTerm::Cell(ValueKind::Text, place(1));
+    Ok(Target::Linked(LinkId(link), from, text))
+}
+
 fn each_row(alloc: Global) -> Result<SourceQuery, AllocError>
     ensures tables { IfOk result (λ q. length q.tables ≡ 1) }
     ensures fits { IfOk result QueryFits }
@@ -71,14 +80,43 @@ fn gives(alloc: Global, target: Target) -> Result<Mapping, AllocError>
     })
 }
 
+// One mapping more.
+fn push_fitting(mappings: &mut Vec<Mapping>, mapping: Mapping) -> Result<(), AllocError>
+    requires fit { AreFit mappings.old.items }
+    requires mapping { MappingFits mapping }
+    requires few { length mappings.old.items < 99 }
+    ensures fit { OnOk result (AreFit mappings.new.items) }
+    ensures count { OnOk result (length mappings.new.items ≡ length mappings.old.items + 1) }
+{
+    mappings.push(mapping)?;
+    Ok(())
+}
+
+fn none(alloc: Global) -> Vec<Mapping>
+    ensures fit { AreFit result.items }
+    ensures count { length result.items ≡ 0 }
+{
+    Vec::new(alloc)
+}
+
 /// The links 0 and 1 lead from each a to its b, each a is in the class 0, and each b in the class 1.
 pub fn four(alloc: Global) -> Result<Vec<Mapping>, Fail>
-    ensures { IfOk result (λ v. AreFit v.items) }
+    ensures fit { IfOk result (λ v. AreFit v.items) }
+    ensures count { IfOk result (λ v. length v.items ≡ 4) }
 {
-    let mut mappings = Vec::new(alloc);
-    mappings.push(gives(alloc, link(alloc, 0)?)?)?;
-    mappings.push(gives(alloc, link(alloc, 1)?)?)?;
-    mappings.push(gives(alloc, member(alloc, 0, 0)?)?)?;
-    mappings.push(gives(alloc, member(alloc, 1, 1)?)?)?;
+    let mut mappings = none(alloc);
+    push_fitting(&mut mappings, gives(alloc, link(alloc, 0)?)?)?;
+    push_fitting(&mut mappings, gives(alloc, link(alloc, 1)?)?)?;
+    push_fitting(&mut mappings, gives(alloc, member(alloc, 0, 0)?)?)?;
+    push_fitting(&mut mappings, gives(alloc, member(alloc, 1, 1)?)?)?;
+    Ok(mappings)
+}
+
+/// The same, and the attribute 2 leads from each a to the text of its b.
+pub fn five(alloc: Global) -> Result<Vec<Mapping>, Fail>
+    ensures fit { IfOk result (λ v. AreFit v.items) }
+{
+    let mut mappings = four(alloc)?;
+    push_fitting(&mut mappings, gives(alloc, attribute(alloc, 2)?)?)?;
     Ok(mappings)
 }

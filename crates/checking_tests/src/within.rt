@@ -5,33 +5,33 @@ ghost use Rattle.dllite_axioms.specs.declared.axioms.Axiom.{Axiom as AxiomOf};
 ghost use Rattle.dllite_axioms.specs.declared.axioms.Constraint.{Constraint as ConstraintOf};
 ghost use Rattle.dllite_axioms.specs.Within.{IsAxiomWithin, IsConstraintWithin, IsWithin};
 ghost use Rattle.mapping_facts.specs.declared.mapping.Mapping.{Mapping as MappingOf};
-ghost use Rattle.mapping_saturation.specs.Saturation.{AreTargetsWithin, IsTargetWithin, with_targets};
+ghost use Rattle.mapping_facts.specs.Within.{AreTargetsWithin, IsTargetWithin, with_targets};
 ghost use Rattle.consistency_check.specs.Checkable.{IsCheckable};
 
 use dllite_axioms::{Axiom, Basic, Constraint};
 use mapping_facts::{Mapping, Target};
 
 fn is_within(basic: Basic) -> bool
-    ensures { IsTrue result → IsWithin 400 600 basic }
+    ensures { IsTrue result → IsWithin 10 10 basic }
 {
     match basic {
-        Basic::Class(class) => class.0 < 400,
-        Basic::Has(link, _) => link.0 < 600,
+        Basic::Class(class) => class.0 < 10,
+        Basic::Has(link, _) => link.0 < 10,
     }
 }
 
 fn is_axiom_within(axiom: Axiom) -> bool
-    ensures { IsTrue result → IsAxiomWithin 400 600 «axiom» }
+    ensures { IsTrue result → IsAxiomWithin 10 10 «axiom» }
 {
     match axiom {
         Axiom::Sub(left, right) => is_within(left) && is_within(right),
-        Axiom::SubLink(narrow, _, wide) => narrow.0 < 600 && wide.0 < 600,
+        Axiom::SubLink(narrow, _, wide) => narrow.0 < 10 && wide.0 < 10,
     }
 }
 
-/// Over so many classes and links as a model may have.
+/// Over ten classes and ten links.
 pub fn are_within(axioms: &[Axiom]) -> bool
-    ensures { IsTrue result → (a : AxiomOf) → In a axioms.now → IsAxiomWithin 400 600 a }
+    ensures { IsTrue result → (a : AxiomOf) → In a axioms.now → IsAxiomWithin 10 10 a }
 {
     for axiom in axioms {
         if !is_axiom_within(*axiom) {
@@ -42,19 +42,19 @@ pub fn are_within(axioms: &[Axiom]) -> bool
 }
 
 fn is_constraint_within(constraint: &Constraint) -> bool
-    ensures { IsTrue result → IsConstraintWithin 400 600 constraint.now }
+    ensures { IsTrue result → IsConstraintWithin 10 10 constraint.now }
 {
     match constraint {
         Constraint::Disjoint(left, right) => is_within(*left) && is_within(*right),
-        Constraint::Func(link, _) => link.0 < 600,
-        Constraint::Apart(one, _, two) => one.0 < 600 && two.0 < 600,
+        Constraint::Func(link, _) => link.0 < 10,
+        Constraint::Apart(one, _, two) => one.0 < 10 && two.0 < 10,
         Constraint::Identified(_, _) => false,
     }
 }
 
-/// Over so many classes and links as a model may have.
+/// Over ten classes and ten links.
 pub fn are_constraints_within(constraints: &[Constraint]) -> bool
-    ensures { IsTrue result → (k : ConstraintOf) → In k constraints.now → IsConstraintWithin 400 600 k }
+    ensures { IsTrue result → (k : ConstraintOf) → In k constraints.now → IsConstraintWithin 10 10 k }
 {
     for constraint in constraints {
         if !is_constraint_within(constraint) {
@@ -88,16 +88,16 @@ pub fn are_checkable(axioms: &[Axiom], constraints: &[Constraint]) -> bool
 }
 
 fn is_target_within(target: &Target) -> bool
-    ensures { IsTrue result → IsTargetWithin 400 600 target.now }
+    ensures { IsTrue result → IsTargetWithin 10 10 target.now }
 {
     match target {
-        Target::InClass(class, _) => class.0 < 400,
-        Target::Linked(link, _, _) => link.0 < 600,
+        Target::InClass(class, _) => class.0 < 10,
+        Target::Linked(link, _, _) => link.0 < 10,
     }
 }
 
 fn are_all_within(targets: &[Target]) -> bool
-    ensures { IsTrue result → AreTargetsWithin 400 600 targets.now }
+    ensures { IsTrue result → AreTargetsWithin 10 10 targets.now }
 {
     for target in targets {
         if !is_target_within(target) {
@@ -107,9 +107,9 @@ fn are_all_within(targets: &[Target]) -> bool
     true
 }
 
-/// Over so many classes and links as a model may have.
+/// Over ten classes and ten links.
 pub fn are_targets_within(mappings: &[Mapping]) -> bool
-    ensures { IsTrue result → (m : MappingOf) → In m mappings.now → AreTargetsWithin 400 600 m.targets }
+    ensures { IsTrue result → (m : MappingOf) → In m mappings.now → AreTargetsWithin 10 10 m.targets }
 {
     for mapping in mappings {
         if !are_all_within(mapping.targets.items()) {

@@ -36,10 +36,11 @@ use Rattle.negative_closure.specs.declared.source.Source.TheVariants.{One, Two, 
 use Rattle.negative_closure.specs.Sources.{IsMetBy, Meets}
 use Rattle.consistency_check.specs.declared.met.Met.{Met}
 use Rattle.consistency_check.specs.Asking.{apart_query, pair_of, row_side, side_same, basic_atom, link_atom, source_atoms, source_query, var}
-use Rattle.consistency_check.specs.Meeting.{AreMet, HasFact, HasSecond, IsMetAt, origin_step}
+use Rattle.consistency_check.specs.Meeting.{AreMet, HasSecond, IsMetAt}
+use Rattle.fact_derivation.specs.Finding.{HasFact, origin_step}
 use Rattle.consistency_check.proofs.Apart.{DifferAt, DifferentTerms, apart_tuple, tuple_apart}
 use Rattle.consistency_check.proofs.Atoms.{basic_back, basic_is, link_back, link_is, three}
-use Rattle.consistency_check.proofs.Found.{IsSmallOrigin, origin_has, origin_mapped, small_origins, small_rows}
+use Rattle.fact_derivation.proofs.Found.{IsSmallOrigin, origin_has, origin_mapped, small_origins, small_rows}
 use Rattle.consistency_check.proofs.Known.{mapped_known}
 
 far_known : (p : LinkId) (d : Dir) (s t : Term) (f : Fact) → f ≡ link_fact p d s t → IsKnownFact f → IsKnown t

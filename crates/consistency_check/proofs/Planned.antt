@@ -20,7 +20,8 @@ use Rattle.negative_closure.specs.Plans.{EndsInClash, run_of}
 use Rattle.negative_closure.specs.Sources.{IsMetBy}
 use Rattle.consistency_check.specs.declared.met.Met.{Met}
 use Rattle.consistency_check.specs.Planned.{derivation_of, renumbered, rule_step}
-use Rattle.consistency_check.specs.Meeting.{AreMet, HasFact, HasSecond}
+use Rattle.consistency_check.specs.Meeting.{AreMet, HasSecond}
+use Rattle.fact_derivation.specs.Finding.{HasFact}
 
 -- the two ends
 ends_at : (facts : List Fact) (n m : ℕ) (f g : Fact) → item facts n ≡ Some f → item facts m ≡ Some g → items_at facts (n ∷ m ∷ []) ≡ Some (f ∷ g ∷ [])

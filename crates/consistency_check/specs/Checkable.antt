@@ -27,8 +27,8 @@ pub record KnowAll (axioms : List Axiom) (mappings saturated : List Mapping) : T
   pub fit : AreFit saturated
   pub known : GiveTheKnown axioms mappings saturated
 
--- the axioms over all classes and links, the marks of the mappings, and for identifications the saturated mappings
+-- the axioms, the marks of the mappings, and for identifications the saturated mappings
 pub record IsPrepared (tbox : Tbox) (mappings : List Mapping) (p : Prepared) : Type 0 where
-  pub axioms : p.downs ≡ record { axioms = tbox.axioms; classes = 400; links = 600 }
+  pub axioms : p.downs.axioms ≡ tbox.axioms
   pub given : AreMarked mappings p.given
   pub saturated : (a : ClassId) (us : List LinkId) → In (Identified a us) tbox.constraints → KnowAll tbox.axioms mappings p.saturated

@@ -4,3 +4,4 @@ pub mod Given
 pub mod Meeting
 pub mod Planned
 pub mod Contradictions
+pub mod Unsatisfiable

@@ -1,5 +1,5 @@
 //! Contradicted constraints.
-ghost use Rattle.std.specs.Prelude.{◌≡◌, ◌<◌, ◌+◌, ◌-◌, ◌^◌, length, IfOk};
+ghost use Rattle.std.specs.Prelude.{◌≡◌, ◌<◌, ◌≤◌, ◌+◌, ◌-◌, ◌^◌, length, IfOk};
 ghost use Rattle.vocabulary.specs.Lists.{In};
 ghost use Rattle.dllite_axioms.specs.Within.{IsAxiomWithin, IsConstraintWithin};
 ghost use Rattle.dllite_axioms.specs.declared.axioms.Axiom.{Axiom as AxiomOf};
@@ -7,7 +7,7 @@ ghost use Rattle.dllite_axioms.specs.declared.axioms.Constraint.{Constraint as C
 ghost use Rattle.dllite_axioms.specs.declared.axioms.Constraint.TheVariants.{Identified};
 ghost use Rattle.mapping_facts.specs.Fits.{AreFit};
 ghost use Rattle.mapping_facts.specs.declared.mapping.Mapping.{Mapping as MappingOf};
-ghost use Rattle.mapping_saturation.specs.Saturation.{AreTargetsWithin, with_targets};
+ghost use Rattle.mapping_facts.specs.Within.{AreTargetsWithin, with_targets};
 ghost use Rattle.negative_closure.specs.Sources.{HasExactSources};
 ghost use Rattle.identification_check.specs.Violations.{AreAttributes};
 ghost use Rattle.consistency_check.specs.Checkable.{IsCheckable, IsPrepared, KnowAll};
@@ -97,7 +97,7 @@ fn contradiction(
 ) -> Result<Option<Derivation>, AllocError>
     requires fit { AreFit mappings.now }
     requires prepared { IsPrepared tbox.now mappings.now prepared.now }
-    requires constraints { (c : ConstraintOf) → In c tbox.now.constraints → IsConstraintWithin 400 600 c }
+    requires constraints { (c : ConstraintOf) → In c tbox.now.constraints → IsConstraintWithin prepared.now.downs.classes prepared.now.downs.links c }
     requires checkable { (c : ConstraintOf) → In c tbox.now.constraints → IsCheckable tbox.now.axioms c }
     ensures { IfOk result (λ found. IsContradiction tbox.now mappings.now tables.now number found) }
 {
@@ -119,24 +119,28 @@ fn contradiction(
 }
 
 /// One accepted derivation for each constraint that is contradicted over the mapped facts, and none for
-/// others, in increasing order of the constraints.
+/// others, in increasing order of the constraints. All is over so many classes and links.
 pub fn conflicts(
     alloc: Global,
     tbox: &Tbox,
+    classes: u32,
+    links: u32,
     mappings: &[Mapping],
     tables: &[Table],
 ) -> Result<List<Derivation>, AllocError>
     requires fit { AreFit mappings.now }
+    requires few_classes { classes ≤ 400 }
+    requires few_links { links ≤ 600 }
     requires few_axioms { length tbox.now.axioms < 2 ^ 32 - 1 }
     requires few_constraints { length tbox.now.constraints < 2 ^ 32 - 1 }
     requires few_targets { length mappings.now + length (with_targets mappings.now) < 2 ^ 32 }
-    requires axioms { (a : AxiomOf) → In a tbox.now.axioms → IsAxiomWithin 400 600 a }
-    requires constraints { (c : ConstraintOf) → In c tbox.now.constraints → IsConstraintWithin 400 600 c }
-    requires targets { (m : MappingOf) → In m mappings.now → AreTargetsWithin 400 600 m.targets }
+    requires axioms { (a : AxiomOf) → In a tbox.now.axioms → IsAxiomWithin classes links a }
+    requires constraints { (c : ConstraintOf) → In c tbox.now.constraints → IsConstraintWithin classes links c }
+    requires targets { (m : MappingOf) → In m mappings.now → AreTargetsWithin classes links m.targets }
     requires checkable { (c : ConstraintOf) → In c tbox.now.constraints → IsCheckable tbox.now.axioms c }
     ensures { IfOk result (AreContradictions tbox.now mappings.now tables.now (length tbox.now.constraints)) }
 {
-    let prepared = Prepared::of(alloc, tbox, mappings)?;
+    let prepared = Prepared::of(alloc, tbox, classes, links, mappings)?;
     let mut found = List::new(alloc);
     for at in 0..tbox.constraints().len() {
         let number = at as u32 + 1;

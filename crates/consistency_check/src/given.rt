@@ -4,7 +4,6 @@ ghost use Rattle.vocabulary.specs.Lists.{In};
 ghost use Rattle.mapping_facts.specs.declared.mapping.Target.{Target as TargetOf};
 ghost use Rattle.consistency_check.specs.Given.{AreMarked, IsMarked, is_marked, may_match, may_meet};
 
-use crate::{CLASSES, LINKS};
 use dllite_axioms::Basic;
 use mapping_facts::{Mapping, Target};
 use negative_closure::Source;
@@ -57,13 +56,18 @@ impl Given {
         }
     }
 
-    /// The marks of the mappings' targets.
-    pub(crate) fn by(alloc: Global, mappings: &[Mapping]) -> Result<Given, AllocError>
+    /// The marks of the mappings' targets among so many classes and links.
+    pub(crate) fn by(
+        alloc: Global,
+        classes: u32,
+        links: u32,
+        mappings: &[Mapping],
+    ) -> Result<Given, AllocError>
         ensures { IfOk result (AreMarked mappings.now) }
     {
         let mut given = Given {
-            classes: vec![in alloc; false; CLASSES as usize]?,
-            links: vec![in alloc; false; LINKS as usize]?,
+            classes: vec![in alloc; false; classes as usize]?,
+            links: vec![in alloc; false; links as usize]?,
         };
         for mapping in mappings {
             given.mark_all(mapping.targets.items());

@@ -12,10 +12,6 @@ mod given;
 mod meeting;
 mod met;
 mod prepared;
+mod unsatisfiable;
 
 pub use finding::conflicts;
-
-// More classes and links than a model has.
-const CLASSES: u32 = 400;
-
-const LINKS: u32 = 600;

@@ -1,78 +1,29 @@
 //! Mapped facts that meet a source.
 ghost use Rattle.std.specs.Prelude.{◌≡◌, ◌≤◌, ◌<◌, ◌+◌, ◌-◌, ◌^◌, ◌∷◌, [], ℕ, length, map, slice_get, All, IfOk, MatchOption};
 ghost use Rattle.vocabulary.specs.Lists.{In};
+ghost use Rattle.source_tables.specs.Tables.{HasKeys};
 ghost use Rattle.mapping_facts.specs.Facts.{mapped_facts};
 ghost use Rattle.mapping_facts.specs.Fits.{AreFit, HaveTexts, RowQueryFits};
 ghost use Rattle.mapping_facts.specs.RowQueries.{row_tuples};
 ghost use Rattle.mapping_unfolding.specs.declared.draft.Origin.{Origin as OriginOf};
-ghost use Rattle.mapping_unfolding.specs.Unfoldings.{AreUnfoldings, HasOrigins, items_from};
+ghost use Rattle.mapping_unfolding.specs.Unfoldings.{AreUnfoldings, HasOrigins};
 ghost use Rattle.negative_closure.specs.Sources.{Meets};
 ghost use Rattle.consistency_check.specs.Asking.{apart_query, source_query};
 ghost use Rattle.consistency_check.specs.Given.{AreMarked};
-ghost use Rattle.consistency_check.specs.Meeting.{AreMet, IsMetAt, origin_step, table_count};
+ghost use Rattle.consistency_check.specs.Meeting.{AreMet, IsMetAt};
 
 use crate::asking::{apart_query, source_query};
 use crate::given::Given;
 use crate::met::Met;
-use conflict_checker::Step;
+use crate::unsatisfiable::is_vain;
+use fact_derivation::{have_few_rows, origin_step};
 use join_engine::some_tuple;
 use mapping_facts::Mapping;
 use mapping_facts::laws::have_texts;
 use mapping_unfolding::{Origin, Unfolded, unfold};
 use negative_closure::Source;
-use source_tables::Table;
+use source_tables::{Table, have_keys};
 use std::alloc::{AllocError, Global};
-use vocabulary::List;
-
-fn items_from(first: usize, count: usize, tuple: &[u32]) -> &[u32]
-    ensures { result.now ≡ items_from first count tuple.now }
-{
-    let first = first.min(tuple.len());
-    let rest = &tuple[first..];
-    &rest[..count.min(rest.len())]
-}
-
-// The numbers, counted from 1.
-fn from_one(alloc: Global, rows: &[u32]) -> Result<List<u32>, AllocError>
-    requires { All (λ n. n < 2 ^ 32 - 1) rows.now }
-    ensures { IfOk result (λ numbers. numbers ≡ map (λ n. n + 1) rows.now) }
-{
-    let mut numbers = List::new(alloc);
-    for row in rows {
-        numbers.push(*row + 1)?;
-    }
-    Ok(numbers)
-}
-
-fn table_count(mappings: &[Mapping], mapping: u32) -> usize
-    ensures { result ≡ table_count (slice_get mappings.now mapping) }
-{
-    match mappings.get(mapping as usize) {
-        Some(mapping) => mapping.query.tables.len(),
-        None => 0,
-    }
-}
-
-// The step of an origin at a tuple of its row query.
-fn origin_step(
-    alloc: Global,
-    mappings: &[Mapping],
-    tuple: &[u32],
-    origin: &Origin,
-) -> Result<Step, AllocError>
-    requires rows { All (λ n. n < 2 ^ 32 - 1) tuple.now }
-    requires mapping { origin.now.mapping < 2 ^ 32 - 1 }
-    requires target { origin.now.target < 2 ^ 32 - 1 }
-    ensures { IfOk result (λ step. step ≡ origin_step mappings.now tuple.now origin.now) }
-{
-    let count = table_count(mappings, origin.mapping);
-    let rows = items_from(origin.first as usize, count, tuple);
-    Ok(Step::Mapped {
-        mapping: origin.mapping + 1,
-        target: origin.target + 1,
-        rows: from_one(alloc, rows)?,
-    })
-}
 
 // The steps of one origin, or of two.
 fn met_at(
@@ -107,11 +58,15 @@ fn met_in(
     requires fit { AreFit mappings.now }
     requires texts { HaveTexts tables.now }
     requires few { All (λ t. length t.rows ≤ 1_000_000) tables.now }
+    requires keys { All HasKeys tables.now }
     requires rows { RowQueryFits unfolded.now.rows }
     requires not_apart { unfolded.now.rows.apart ≡ [] }
     requires origins { HasOrigins mappings.now (source_query source.now) unfolded.now }
     ensures { IfOk result (λ met. MatchOption met (row_tuples tables.now (apart_query unfolded.now.rows) ≡ []) (AreMet mappings.now tables.now source.now)) }
 {
+    if is_vain(source, unfolded, mappings, tables) {
+        return Ok(None);
+    }
     let rows = apart_query(alloc, &unfolded.rows)?;
     match some_tuple(alloc, &rows, tables)? {
         Some(tuple) => {
@@ -119,15 +74,6 @@ fn met_in(
             Ok(Some(met))
         }
         None => Ok(None),
-    }
-}
-
-// No table has more rows than one may have.
-fn have_few_rows(tables: &[Table])
-    ensures { All (λ t. length t.rows ≤ 1_000_000) tables.now }
-{
-    for table in tables {
-        let _ = table.rows();
     }
 }
 
@@ -149,6 +95,7 @@ pub(crate) fn meet(
     }
     have_texts(tables);
     have_few_rows(tables);
+    have_keys(tables);
     let query = source_query(alloc, source)?;
     let list = unfold(alloc, &query, mappings)?;
     for unfolded in list.items() {

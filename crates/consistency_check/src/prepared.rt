@@ -8,11 +8,10 @@ ghost use Rattle.dllite_axioms.specs.declared.axioms.Axiom.{Axiom as AxiomOf};
 ghost use Rattle.dllite_axioms.specs.declared.axioms.Constraint.TheVariants.{Identified};
 ghost use Rattle.mapping_facts.specs.Fits.{AreFit};
 ghost use Rattle.mapping_facts.specs.declared.mapping.Mapping.{Mapping as MappingOf};
-ghost use Rattle.mapping_saturation.specs.Saturation.{AreTargetsWithin, with_targets};
+ghost use Rattle.mapping_facts.specs.Within.{AreTargetsWithin, with_targets};
 ghost use Rattle.consistency_check.specs.Checkable.{IsPrepared, KnowAll};
 
 use crate::given::Given;
-use crate::{CLASSES, LINKS};
 use dllite_axioms::{Constraint, Tbox};
 use mapping_facts::Mapping;
 use mapping_saturation::saturate;
@@ -65,17 +64,23 @@ impl Prepared {
     pub(crate) fn of(
         alloc: Global,
         tbox: &Tbox,
+        classes: u32,
+        links: u32,
         mappings: &[Mapping],
     ) -> Result<Prepared, AllocError>
         requires fit { AreFit mappings.now }
+        requires few_classes { classes ≤ 400 }
+        requires few_links { links ≤ 600 }
         requires few_axioms { length tbox.now.axioms < 2 ^ 32 - 1 }
-        requires axioms { (a : AxiomOf) → In a tbox.now.axioms → IsAxiomWithin 400 600 a }
-        requires targets { (m : MappingOf) → In m mappings.now → AreTargetsWithin 400 600 m.targets }
+        requires axioms { (a : AxiomOf) → In a tbox.now.axioms → IsAxiomWithin classes links a }
+        requires targets { (m : MappingOf) → In m mappings.now → AreTargetsWithin classes links m.targets }
         requires few_targets { length mappings.now + length (with_targets mappings.now) < 2 ^ 32 }
-        ensures { IfOk result (IsPrepared tbox.now mappings.now) }
+        ensures prepared { IfOk result (IsPrepared tbox.now mappings.now) }
+        ensures classes { IfOk result (λ p. p.downs.classes ≡ classes) }
+        ensures links { IfOk result (λ p. p.downs.links ≡ links) }
     {
-        let downs = Downs::of(alloc, tbox, CLASSES, LINKS)?;
-        let given = Given::by(alloc, mappings)?;
+        let downs = Downs::of(alloc, tbox, classes, links)?;
+        let given = Given::by(alloc, classes, links, mappings)?;
         let saturated = saturated_for(alloc, tbox.constraints(), mappings, &downs)?;
         Ok(Prepared {
             downs,

@@ -18,7 +18,8 @@ use Rattle.conflict_checker.specs.declared.derivation.Derivation.{Derivation}
 use Rattle.vocabulary.specs.Lists.{item}
 use Rattle.derivation_text.specs.Reading.{is_step, steps_limit}
 use Rattle.derivation_text.specs.Spelling.{AreSmall, AreSpelledSteps, AreWellFormed, IsSpelledStep, IsWellFormed}
-use Rattle.derivation_text.specs.Writing.{clash_line, conflict_line, derivation_lines, derivations_lines, derivations_text, lines_text, spaced, step_line, step_lines, text_or_none}
+use Rattle.line_lexer.specs.Judging.{text_or_none}
+use Rattle.derivation_text.specs.Writing.{clash_line, conflict_line, derivation_lines, derivations_lines, derivations_text, lines_text, spaced, step_line, step_lines}
 use Rattle.derivation_text.proofs.Digits.{are_digits, not_this}
 use Rattle.derivation_text.proofs.Lining.{five, six}
 use Rattle.derivation_text.proofs.Lexing.{run_all}

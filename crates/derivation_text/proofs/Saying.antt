@@ -12,7 +12,8 @@ use Rattle.vocabulary.specs.Lists.{item}
 use Rattle.derivation_text.specs.declared.said.Said.TheVariants.{Conflict, Mapped, Rule, Clash, End}
 use Rattle.derivation_text.specs.Reading.{small, numbers, line_said, said_by, mapping_number}
 use Rattle.derivation_text.specs.Spelling.{AreSmall}
-use Rattle.derivation_text.specs.Writing.{spaced, step_line, conflict_line, clash_line, text_or_none}
+use Rattle.line_lexer.specs.Judging.{text_or_none}
+use Rattle.derivation_text.specs.Writing.{spaced, step_line, conflict_line, clash_line}
 use Rattle.derivation_text.proofs.Digits.{are_digits, not_text, value}
 use Rattle.derivation_text.proofs.Lining.{five, six}
 use Rattle.derivation_text.proofs.Lexing.{word, num, word_token, number_token, number_alone, space_passed, nothing_left, spaced_cut, spaced_token, spaced_tokens}

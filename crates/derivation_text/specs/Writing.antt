@@ -1,14 +1,11 @@
 -- The text that a list of derivations is written as.
-use Rattle.std.specs.Prelude.{ℕ, ◌+◌, List, [], ◌∷◌, ◌++◌, codes, decimal, Option, Some, None}
+use Rattle.std.specs.Prelude.{ℕ, ◌+◌, List, [], ◌∷◌, ◌++◌, codes, decimal}
 use Rattle.std.specs.List.{flat_map}
 use Rattle.conflict_checker.specs.declared.derivation.Step.{Step}
 use Rattle.conflict_checker.specs.declared.derivation.Step.TheVariants.{Mapped, Rule}
 use Rattle.conflict_checker.specs.declared.derivation.Derivation.{Derivation}
 use Rattle.vocabulary.specs.Lists.{item}
-
-abbrev pub text_or_none : Option (List ℕ) → List ℕ
-text_or_none None = []
-text_or_none (Some text) = text
+use Rattle.line_lexer.specs.Judging.{text_or_none}
 
 -- a number behind a space
 abbrev pub spaced : ℕ → List ℕ

@@ -5,7 +5,8 @@ ghost use Rattle.vocabulary.specs.Lists.{item};
 ghost use Rattle.line_lexer.specs.Names.{AreNames};
 ghost use Rattle.derivation_text.specs.Reading.{derivations_of};
 ghost use Rattle.derivation_text.specs.Spelling.{AreWellFormed, Spells};
-ghost use Rattle.derivation_text.specs.Writing.{clash_line, conflict_line, derivation_lines, derivations_text, lines_text, spaced, step_line, step_lines, text_or_none};
+ghost use Rattle.line_lexer.specs.Judging.{text_or_none};
+ghost use Rattle.derivation_text.specs.Writing.{clash_line, conflict_line, derivation_lines, derivations_text, lines_text, spaced, step_line, step_lines};
 
 use conflict_checker::{Derivation, Step, item};
 use mapping_facts::Mapping;

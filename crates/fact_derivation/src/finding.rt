@@ -46,8 +46,8 @@ fn table_count(mappings: &[Mapping], mapping: u32) -> usize
     }
 }
 
-// The step of an origin at a tuple of its row query.
-fn origin_step(
+/// The mapped step of an origin at a tuple of its row query.
+pub fn origin_step(
     alloc: Global,
     mappings: &[Mapping],
     tuple: &[u32],
@@ -91,8 +91,8 @@ fn step_in(
     }
 }
 
-// No table has more rows than one may have.
-fn have_few_rows(tables: &[Table])
+/// A law of loaded tables: none has more rows than one may have, so that rows can be numbered from 1.
+pub fn have_few_rows(tables: &[Table])
     ensures { All (λ t. length t.rows ≤ 1_000_000) tables.now }
 {
     for table in tables {

@@ -2,12 +2,11 @@
 ghost use Rattle.std.specs.Prelude.{◌≡◌, ◌<◌, ◌+◌, ◌-◌, ◌^◌, IfOk, length, option_map};
 ghost use Rattle.perfect_rewriting.specs.Steps.{atom_of};
 ghost use Rattle.fold_rewriting.specs.Places.{beside};
-ghost use Rattle.fold_rewriting.specs.Cutting.{cut_blank, cut_of, folded, joined, left_out, merged, taken_at, without};
+ghost use Rattle.fold_rewriting.specs.Cutting.{changed_query, cut_blank, cut_of, folded, joined, left_out, merged, taken_at, without};
 
 use crate::atoms::{beside, has_var, parent_in};
-use crate::meeting::{changed, meet};
 use dllite_axioms::Basic;
-use queries::{Arg, Atom, Meeting, Query};
+use queries::{Arg, Atom, Change, Meeting, Query, meet};
 use std::alloc::{AllocError, Global};
 use vocabulary::{Dir, List, VarId};
 
@@ -78,6 +77,16 @@ fn merge(alloc: Global, query: &Query, v: VarId) -> Result<Option<Cut>, AllocErr
         }
     }
     Ok(Some(cut))
+}
+
+// The query with what is replaced, in the head too.
+fn changed(alloc: Global, query: Query, change: Change) -> Result<Query, AllocError>
+    ensures { IfOk result (λ q. q ≡ changed_query change query) }
+{
+    match change {
+        Change::Keep => Ok(query),
+        Change::Put(v, by) => query.substitute(alloc, v, &by),
+    }
 }
 
 impl Cut {

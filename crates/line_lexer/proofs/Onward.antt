@@ -3,7 +3,7 @@ use Rattle.std.proofs.Common.{◌≡◌, ◌<◌, ◌≤◌, ◌-◌, ◌+◌, �
 use Rattle.std.specs.List.{prefix_len, slice_range}
 use Rattle.line_lexer.specs.declared.shape.Shape.{Shape}
 use Rattle.line_lexer.specs.Shapes.{IsLongestFront}
-use Rattle.line_lexer.specs.Tokens.{is_blank, token_front, token_at, is_over, First, Over, Bad, At, behind, first_behind, unblanked, first_of, Seen, in_front, begun, tokens_behind, tokens_of, IsNext, IsInOrder, seen, ReadsTokens, AreSpans}
+use Rattle.line_lexer.specs.Tokens.{is_blank, token_front, token_at, is_over, First, Over, Bad, At, behind, first_behind, unblanked, first_of, Seen, in_front, begun, tokens_behind, tokens_of, IsNext, IsInOrder, seen, Begins, ReadsTokens, AreSpans}
 use Rattle.line_lexer.specs.Cursor.{Cursor, rest_of}
 use Rattle.line_lexer.specs.declared.token.Token.{Token}
 use Rattle.line_lexer.specs.declared.token.LexFault.{LexFault}
@@ -134,6 +134,27 @@ loop_none line front old new so is = so ∙ ap (ahead front) (next_none old new 
 
 pub loop_err : (line : List ℕ) (front : List Seen) (old new : Cursor) (fault : LexFault) → tokens_of line ≡ ahead front (tokens_of (rest_of old)) → IsNext (first_of (rest_of old)) old new (Some (Err fault)) → tokens_of line ≡ None
 loop_err line front old new fault so is = so ∙ ap (ahead front) (next_err old new fault (first_of (rest_of old)) refl is)
+
+-- the first token of a line
+at_front : (line : List ℕ) (old : Cursor) → old ≡ record { line = line; place = 0 } → tokens_of line ≡ ahead [] (tokens_of (rest_of old))
+at_front line old e = rw e (ahead-nil (tokens_of line))
+  where
+    ahead-nil : (o : Option (List Seen)) → o ≡ ahead [] o
+    ahead-nil None = refl
+    ahead-nil (Some ts) = refl
+
+pub first_none : (line : List ℕ) (old new : Cursor) → old ≡ record { line = line; place = 0 } → IsNext (first_of (rest_of old)) old new None → tokens_of line ≡ Some []
+first_none line old new begun is = loop_none line [] old new (at_front line old begun) is
+
+pub first_ok : (line : List ℕ) (old new : Cursor) (token : Token) → old ≡ record { line = line; place = 0 } → IsNext (first_of (rest_of old)) old new (Some (Ok token)) → Begins (seen token) (tokens_of line)
+first_ok line old new token begun is = by (tokens_of (rest_of new)) (loop_ok line [] old new token (at_front line old begun) is)
+  where
+    by : (o : Option (List Seen)) → tokens_of line ≡ ahead (seen token ∷ []) o → Begins (seen token) (tokens_of line)
+    by None e = rw e tt
+    by (Some ts) e = rw e (ts, refl)
+
+pub first_err : (line : List ℕ) (old new : Cursor) (fault : LexFault) → old ≡ record { line = line; place = 0 } → IsNext (first_of (rest_of old)) old new (Some (Err fault)) → tokens_of line ≡ None
+first_err line old new fault begun is = loop_err line [] old new fault (at_front line old begun) is
 
 pub reads : (tokens : Vec Token Global) (ts : Option (List Seen)) → ts ≡ Some (map seen tokens.items) → ReadsTokens (Ok tokens) ts
 reads tokens None e = absurd cc

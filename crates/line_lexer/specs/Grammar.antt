@@ -4,7 +4,7 @@ use Rattle.std.specs.List.{list_any}
 use Rattle.std.specs.Str.{bytes_eq}
 use Rattle.line_lexer.specs.declared.shape.Shape.{Shape}
 use Rattle.line_lexer.specs.declared.shape.Shape.TheVariants.{Word, Quoted, Number, Sign}
-use Rattle.line_lexer.specs.Shapes.{inside, decimal}
+use Rattle.line_lexer.specs.Shapes.{inside, decimal, is_word}
 use Rattle.line_lexer.specs.Tokens.{Seen}
 
 -- one reader behind another
@@ -53,6 +53,10 @@ reserved = codes "from" ∷ codes "where" ∷ codes "then" ∷ codes "and" ∷ c
 -- one of them
 abbrev pub is_reserved : List ℕ → Bool
 is_reserved text = list_any (bytes_eq text) reserved
+
+-- the text is a word that is not reserved
+abbrev pub is_name : List ℕ → Bool
+is_name text = is_word text && not (is_reserved text)
 
 -- a word that is not reserved
 abbrev pub name : List Seen → Option (List ℕ × List Seen)

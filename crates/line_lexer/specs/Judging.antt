@@ -37,3 +37,13 @@ read_by {S} {L} form broken grown s (Some (t ∷ ts)) = judged (form (t ∷ ts))
 abbrev pub has_twice : List (List ℕ) → Bool
 has_twice [] = false
 has_twice (text ∷ texts) = list_any (bytes_eq text) texts || has_twice texts
+
+-- the number, or 0 where there is none
+abbrev pub or_zero : Option ℕ → ℕ
+or_zero None = 0
+or_zero (Some n) = n
+
+-- the text, or the empty one where there is none
+abbrev pub text_or_none : Option (List ℕ) → List ℕ
+text_or_none None = []
+text_or_none (Some text) = text

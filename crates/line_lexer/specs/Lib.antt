@@ -4,6 +4,7 @@ pub mod Tokens
 pub mod Left
 pub mod Lines
 pub mod Grammar
+pub mod Separated
 pub mod Faults
 pub mod Runs
 pub mod Judging

@@ -149,6 +149,17 @@ ReadsTokens (Err Syntax) ts = ts ≡ None
 ReadsTokens (Err NoMemory) ts = Unit {0}
 ReadsTokens (Err _) ts = ⊥
 
+-- where there are tokens, this one is the first
+abbrev pub Begins : Seen → Option (List Seen) → Type 0
+Begins t None = Unit {0}
+Begins t (Some ts) = (rest : List Seen) × (ts ≡ t ∷ rest)
+
+-- what is told of the front of a line: no token, this one first, or that none begins there
+abbrev pub TellsFirst : Result (Option Token) LexFault → Option (List Seen) → Type 0
+TellsFirst (Ok None) ts = ts ≡ Some []
+TellsFirst (Ok (Some token)) ts = Begins (seen token) ts
+TellsFirst (Err fault) ts = ts ≡ None
+
 -- tokens stand in the line one after the other from a place to another, each of them the slice at its span
 abbrev pub AreSpans : List ℕ → ℕ → List Token → ℕ → Type 0
 AreSpans line from [] to = from ≤ to

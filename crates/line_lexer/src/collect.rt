@@ -1,12 +1,25 @@
 //! All tokens of a line.
 ghost use Rattle.std.specs.Prelude.{◌≡◌, ℕ, IfOk, length, drop};
 ghost use Rattle.line_lexer.specs.Shapes.{IsLongestFront};
-ghost use Rattle.line_lexer.specs.Tokens.{AreSpans, ReadsTokens, token_at, tokens_of};
+ghost use Rattle.line_lexer.specs.Tokens.{AreSpans, ReadsTokens, TellsFirst, token_at, tokens_of};
 
 use crate::fault::LineFault;
-use crate::token::Token;
+use crate::token::{LexFault, Token};
 use crate::tokens::Tokens;
 use std::alloc::Global;
+
+/// The token that stands first in a line, if there is one. What stands behind it is not looked at: a line may have a first
+/// token where [`tokens_of`] has Syntax.
+pub fn first_token(line: &str) -> Result<Option<Token<'_>>, LexFault>
+    ensures { TellsFirst result (tokens_of line.now) }
+{
+    let mut tokens = Tokens::new(line);
+    match tokens.next() {
+        None => Ok(None),
+        Some(Ok(token)) => Ok(Some(token)),
+        Some(Err(fault)) => Err(fault),
+    }
+}
 
 /// The tokens of a line. Syntax exactly where no token begins at some place.
 #[tactic(auto, using(crate::proofs::Longest::longest))]

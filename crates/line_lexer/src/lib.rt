@@ -9,15 +9,17 @@ mod collect;
 mod fault;
 pub mod grammar;
 mod lines;
+mod repeats;
 mod runs;
 mod shape;
 mod token;
 mod tokens;
 mod values;
 
-pub use collect::tokens_of;
+pub use collect::{first_token, tokens_of};
 pub use fault::{Counted, LineFault};
 pub use lines::{Line, Lines};
+pub use repeats::has_twice;
 pub use shape::Shape;
 pub use token::{LexFault, Token};
 pub use tokens::Tokens;

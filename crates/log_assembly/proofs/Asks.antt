@@ -14,7 +14,7 @@ use Rattle.queries.specs.declared.query.Query.{Query}
 use Rattle.queries.specs.Order.{tuple_cmp}
 use Rattle.perfect_rewriting.specs.declared.members.RewriteFault.{RewriteFault}
 use Rattle.perfect_rewriting.specs.declared.members.RewriteFault.TheVariants.{TooWide}
-use Rattle.perfect_rewriting.specs.Rewriting.{IsTooWide}
+use Rattle.fold_rewriting.specs.Listing.{IsTooWide}
 use Rattle.annotation_language.specs.declared.notes.KeyNote.{KeyNote}
 use Rattle.annotation_language.specs.declared.notes.EventNote.{EventNote}
 use Rattle.annotation_language.specs.declared.notes.Annotations.{Annotations}

@@ -4,6 +4,7 @@ mod InOrder
 mod Judging
 mod Making
 mod Moments
+mod Neighbours
 mod Numbering
 mod Occurring
 pub mod OneLog

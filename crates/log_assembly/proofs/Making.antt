@@ -15,14 +15,13 @@ use Rattle.annotation_language.specs.declared.notes.Annotations.{Annotations}
 use Rattle.log_assembly.specs.declared.asked.AskedEvent.{AskedEvent}
 use Rattle.log_assembly.specs.declared.asked.Asked.{Asked}
 use Rattle.log_assembly.specs.declared.attributes.Attribute.{Attribute}
-use Rattle.log_assembly.specs.declared.occurrences.Occurrence.{Occurrence}
 use Rattle.log_assembly.specs.declared.verdict.Why.TheVariants.{NoValue, SeveralValues}
 use Rattle.log_assembly.specs.declared.verdict.Judgement.{Judgement}
 use Rattle.log_assembly.specs.Answered.{AreAsked, IsEventAsked}
 use Rattle.log_assembly.specs.Asked.{Certain, HasSeveral, IsAnswer, IsCase, IsCaseOf, IsName, IsObject}
 use Rattle.log_assembly.specs.Found.{homes_at, keys_at, names_of, values_at}
 use Rattle.log_assembly.specs.Judged.{entries_at, first_unmet, has_names, judgement_of, judgements_of, verdict_by, verdict_of, why_of}
-use Rattle.log_assembly.specs.Gathered.{at_case, log_of, moment_of, occurrence_cmp, row_by, row_of, title_of, trace_of}
+use Rattle.log_assembly.specs.Gathered.{Occurrence, at_case, log_of, moment_of, occurrence_cmp, row_by, row_of, title_of, trace_of}
 use Rattle.log_assembly.specs.TheLog.{IsEvent, IsLog, IsMoment, IsTitle, IsTrace, entry_of}
 use Rattle.log_assembly.specs.TheReport.{AreVerdicts, IsFirstUnmet, IsReport, IsVerdict, IsWhy, report_text}
 use Rattle.log_assembly.proofs.Homes.{from_filter, from_map, in_filter, none_of, not_several, one_of, several_of}

@@ -14,12 +14,11 @@ use Rattle.annotation_language.specs.declared.notes.Annotations.{Annotations}
 use Rattle.log_assembly.specs.declared.asked.AskedEvent.{AskedEvent}
 use Rattle.log_assembly.specs.declared.asked.Asked.{Asked}
 use Rattle.log_assembly.specs.declared.attributes.Attribute.{Attribute}
-use Rattle.log_assembly.specs.declared.occurrences.Occurrence.{Occurrence}
 use Rattle.log_assembly.specs.Answered.{AreAsked, IsEventAsked}
 use Rattle.log_assembly.specs.Asked.{Certain, IsAnswer, IsCaseOf, IsObject}
 use Rattle.log_assembly.specs.Found.{homes_at, keys_at, names_of}
 use Rattle.log_assembly.specs.Judged.{first_unmet, is_kept, times_of}
-use Rattle.log_assembly.specs.Gathered.{at_case, event_occurrences, moment_of, object_occurrences, occurrence, occurrence_cmp, occurrences_from, occurrences_if}
+use Rattle.log_assembly.specs.Gathered.{Occurrence, at_case, event_occurrences, moment_of, object_occurrences, occurrence, occurrence_cmp, occurrences_from, occurrences_if}
 use Rattle.log_assembly.specs.TheLog.{IsKept, IsMoment, Moment, moment_cmp}
 use Rattle.log_assembly.proofs.Homes.{from_flat_map, from_map, homes_from, homes_to, in_flat_map}
 use Rattle.log_assembly.proofs.Judging.{all_met, none_unmet, times_from, times_to}

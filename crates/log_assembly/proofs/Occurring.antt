@@ -20,8 +20,7 @@ use Rattle.vocabulary.specs.Texts.{text_cmp}
 use Rattle.vocabulary.proofs.Members.{In-from_Contains, Contains-from_In}
 use Rattle.annotation_language.specs.declared.notes.EventNote.{EventNote}
 use Rattle.log_assembly.specs.declared.asked.AskedEvent.{AskedEvent}
-use Rattle.log_assembly.specs.declared.occurrences.Occurrence.{Occurrence}
-use Rattle.log_assembly.specs.Gathered.{event_occurrences, moment_of, occurrence_cmp, occurrences_from}
+use Rattle.log_assembly.specs.Gathered.{Occurrence, event_occurrences, moment_of, occurrence_cmp, occurrences_from}
 use Rattle.log_assembly.specs.TheLog.{moment_cmp}
 use Rattle.log_assembly.proofs.OneLog.{moment_total}
 use Rattle.log_assembly.proofs.Runs.{rises}

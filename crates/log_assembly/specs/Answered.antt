@@ -6,7 +6,7 @@ use Rattle.vocabulary.specs.Lists.{In, IsListOf, Pairwise}
 use Rattle.dllite_axioms.specs.declared.axioms.Axiom.{Axiom}
 use Rattle.queries.specs.declared.query.Query.{Query}
 use Rattle.queries.specs.Order.{tuple_cmp}
-use Rattle.perfect_rewriting.specs.Rewriting.{IsTooWide}
+use Rattle.fold_rewriting.specs.Listing.{IsTooWide}
 use Rattle.certain_answers.specs.declared.answer_list.Answers.{Answers}
 use Rattle.annotation_language.specs.declared.notes.KeySource.{KeySource}
 use Rattle.annotation_language.specs.declared.notes.KeySource.TheVariants.{Fixed, Asked as OfQuery}
@@ -34,7 +34,7 @@ asked_queries notes = option_to_list notes.case_query ++ option_to_list notes.ca
 abbrev pub Asks : Annotations → Query → Type 0
 Asks notes query = In query (asked_queries notes)
 
--- a query that the annotations ask is too wide to be rewritten
+-- a query that the annotations ask is too wide to be answered
 abbrev pub AsksTooWide : List Axiom → Annotations → Type 0
 AsksTooWide axioms notes = (query : Query) × Asks notes query × IsTooWide axioms query
 

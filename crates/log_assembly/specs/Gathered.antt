@@ -14,10 +14,16 @@ use Rattle.annotation_language.specs.declared.notes.Annotations.{Annotations}
 use Rattle.log_assembly.specs.declared.asked.AskedEvent.{AskedEvent}
 use Rattle.log_assembly.specs.declared.asked.Asked.{Asked}
 use Rattle.log_assembly.specs.declared.attributes.Attribute.{Attribute}
-use Rattle.log_assembly.specs.declared.occurrences.Occurrence.{Occurrence}
 use Rattle.log_assembly.specs.Found.{homes_at, keys_at, names_of, values_at}
 use Rattle.log_assembly.specs.Judged.{entries_of, is_kept, times_of}
 use Rattle.log_assembly.specs.TheLog.{Moment, entry_of, moment_cmp}
+
+-- an event of the log in one of its cases: when, which object, and the place of its annotation
+pub record Occurrence : Type 0 where
+  pub case : List ℕ
+  pub instant : List ℕ
+  pub object : List ℕ
+  pub place : ℕ
 
 abbrev pub moment_of : Occurrence → Moment
 moment_of x = record { instant = x.instant; object = x.object; place = x.place }

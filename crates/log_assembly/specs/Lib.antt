@@ -4,5 +4,6 @@ pub mod Found
 pub mod Gathered
 pub mod Judged
 pub mod Laws
+pub mod Lent
 pub mod TheLog
 pub mod TheReport

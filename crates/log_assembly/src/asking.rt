@@ -5,13 +5,10 @@ ghost use Rattle.annotation_language.specs.Askable.{AreAskable, EventIsAskable, 
 ghost use Rattle.certain_semantics.specs.Certain.{IsCertain};
 ghost use Rattle.log_assembly.specs.Answered.{AreAnswersOf, AreAsked, AsksTooWide, EventIsTooWide, HasOne, IsEventAsked, IsInOrder, KeyIsTooWide, MayBeTooWide, query_of};
 ghost use Rattle.mapping_facts.specs.Facts.{mapped_facts};
-ghost use Rattle.mapping_facts.specs.Fits.{AreFit};
 
 use crate::{Asked, AskedEvent};
 use annotation_language::{Annotations, EventNote, KeyNote, KeySource};
-use certain_answers::{Answers, answers};
-use dllite_axioms::Tbox;
-use mapping_facts::Mapping;
+use certain_answers::{Answers, Specification, answers};
 use perfect_rewriting::RewriteFault;
 use queries::Query;
 use source_tables::Table;
@@ -22,18 +19,16 @@ use vocabulary::List;
 fn ask_query(
     alloc: Global,
     query: Option<&Query>,
-    tbox: &Tbox,
-    mappings: &[Mapping],
+    specification: &Specification,
     tables: &[Table],
 ) -> Result<Answers, RewriteFault>
-    requires askable { IfAskable (option_copied query) }
-    requires fit { AreFit mappings.now }
-    ensures answers { IfOk result (AreAnswersOf (IsCertain tbox.now.axioms (mapped_facts mappings.now tables.now)) (option_copied query.entry)) }
-    ensures narrow { IfOk result (λ a. MayBeTooWide tbox.now.axioms (option_copied query.entry) → ⊥) }
-    ensures wide { IfErr result (λ fault. fault ≡ RewriteFault.TooWide → MayBeTooWide tbox.now.axioms (option_copied query.entry)) }
+    requires { IfAskable (option_copied query) }
+    ensures answers { IfOk result (AreAnswersOf (IsCertain specification.now.axioms (mapped_facts specification.now.mappings tables.now)) (option_copied query.entry)) }
+    ensures narrow { IfOk result (λ a. MayBeTooWide specification.now.axioms (option_copied query.entry) → ⊥) }
+    ensures wide { IfErr result (λ fault. fault ≡ RewriteFault.TooWide → MayBeTooWide specification.now.axioms (option_copied query.entry)) }
 {
     match query {
-        Some(query) => answers(alloc, tbox, mappings, tables, query),
+        Some(query) => answers(alloc, specification, tables, query),
         None => Ok(Answers {
             tuples: List::new(alloc),
         }),
@@ -52,35 +47,31 @@ fn query_of(source: &KeySource) -> Option<&Query>
 fn ask_key(
     alloc: Global,
     key: &KeyNote,
-    tbox: &Tbox,
-    mappings: &[Mapping],
+    specification: &Specification,
     tables: &[Table],
 ) -> Result<Answers, RewriteFault>
-    requires askable { SourceIsAskable key.now.source }
-    requires fit { AreFit mappings.now }
-    ensures answers { IfOk result (AreAnswersOf (IsCertain tbox.now.axioms (mapped_facts mappings.now tables.now)) (query_of key.now.source)) }
-    ensures narrow { IfOk result (λ a. KeyIsTooWide tbox.now.axioms key.now → ⊥) }
-    ensures wide { IfErr result (λ fault. fault ≡ RewriteFault.TooWide → KeyIsTooWide tbox.now.axioms key.now) }
+    requires { SourceIsAskable key.now.source }
+    ensures answers { IfOk result (AreAnswersOf (IsCertain specification.now.axioms (mapped_facts specification.now.mappings tables.now)) (query_of key.now.source)) }
+    ensures narrow { IfOk result (λ a. KeyIsTooWide specification.now.axioms key.now → ⊥) }
+    ensures wide { IfErr result (λ fault. fault ≡ RewriteFault.TooWide → KeyIsTooWide specification.now.axioms key.now) }
 {
-    ask_query(alloc, query_of(&key.source), tbox, mappings, tables)
+    ask_query(alloc, query_of(&key.source), specification, tables)
 }
 
 fn ask_keys(
     alloc: Global,
     keys: &[KeyNote],
-    tbox: &Tbox,
-    mappings: &[Mapping],
+    specification: &Specification,
     tables: &[Table],
 ) -> Result<List<Answers>, RewriteFault>
-    requires askable { (key : KeyNote) → In key keys.now → SourceIsAskable key.source }
-    requires fit { AreFit mappings.now }
-    ensures answers { IfOk result (Pairwise (λ key a. AreAnswersOf (IsCertain tbox.now.axioms (mapped_facts mappings.now tables.now)) (query_of key.source) a) keys.now) }
-    ensures narrow { IfOk result (λ l. HasOne (KeyIsTooWide tbox.now.axioms) keys.now → ⊥) }
-    ensures wide { IfErr result (λ fault. fault ≡ RewriteFault.TooWide → HasOne (KeyIsTooWide tbox.now.axioms) keys.now) }
+    requires { (key : KeyNote) → In key keys.now → SourceIsAskable key.source }
+    ensures answers { IfOk result (Pairwise (λ key a. AreAnswersOf (IsCertain specification.now.axioms (mapped_facts specification.now.mappings tables.now)) (query_of key.source) a) keys.now) }
+    ensures narrow { IfOk result (λ l. HasOne (KeyIsTooWide specification.now.axioms) keys.now → ⊥) }
+    ensures wide { IfErr result (λ fault. fault ≡ RewriteFault.TooWide → HasOne (KeyIsTooWide specification.now.axioms) keys.now) }
 {
     let mut asked = List::new(alloc);
     for key in keys {
-        asked.push(ask_key(alloc, key, tbox, mappings, tables)?)?;
+        asked.push(ask_key(alloc, key, specification, tables)?)?;
     }
     Ok(asked)
 }
@@ -88,19 +79,17 @@ fn ask_keys(
 fn ask_event(
     alloc: Global,
     event: &EventNote,
-    tbox: &Tbox,
-    mappings: &[Mapping],
+    specification: &Specification,
     tables: &[Table],
 ) -> Result<AskedEvent, RewriteFault>
-    requires askable { EventIsAskable event.now }
-    requires fit { AreFit mappings.now }
-    ensures asked { IfOk result (IsEventAsked (IsCertain tbox.now.axioms (mapped_facts mappings.now tables.now)) event.now) }
-    ensures narrow { IfOk result (λ a. EventIsTooWide tbox.now.axioms event.now → ⊥) }
-    ensures wide { IfErr result (λ fault. fault ≡ RewriteFault.TooWide → EventIsTooWide tbox.now.axioms event.now) }
+    requires { EventIsAskable event.now }
+    ensures asked { IfOk result (IsEventAsked (IsCertain specification.now.axioms (mapped_facts specification.now.mappings tables.now)) event.now) }
+    ensures narrow { IfOk result (λ a. EventIsTooWide specification.now.axioms event.now → ⊥) }
+    ensures wide { IfErr result (λ fault. fault ≡ RewriteFault.TooWide → EventIsTooWide specification.now.axioms event.now) }
 {
-    let objects = answers(alloc, tbox, mappings, tables, &event.objects)?;
-    let cases = ask_query(alloc, event.cases.as_ref(), tbox, mappings, tables)?;
-    let keys = ask_keys(alloc, event.keys.items(), tbox, mappings, tables)?;
+    let objects = answers(alloc, specification, tables, &event.objects)?;
+    let cases = ask_query(alloc, event.cases.as_ref(), specification, tables)?;
+    let keys = ask_keys(alloc, event.keys.items(), specification, tables)?;
     Ok(AskedEvent {
         objects,
         cases,
@@ -111,19 +100,17 @@ fn ask_event(
 fn ask_events(
     alloc: Global,
     events: &[EventNote],
-    tbox: &Tbox,
-    mappings: &[Mapping],
+    specification: &Specification,
     tables: &[Table],
 ) -> Result<List<AskedEvent>, RewriteFault>
-    requires askable { (event : EventNote) → In event events.now → EventIsAskable event }
-    requires fit { AreFit mappings.now }
-    ensures asked { IfOk result (Pairwise (IsEventAsked (IsCertain tbox.now.axioms (mapped_facts mappings.now tables.now))) events.now) }
-    ensures narrow { IfOk result (λ l. HasOne (EventIsTooWide tbox.now.axioms) events.now → ⊥) }
-    ensures wide { IfErr result (λ fault. fault ≡ RewriteFault.TooWide → HasOne (EventIsTooWide tbox.now.axioms) events.now) }
+    requires { (event : EventNote) → In event events.now → EventIsAskable event }
+    ensures asked { IfOk result (Pairwise (IsEventAsked (IsCertain specification.now.axioms (mapped_facts specification.now.mappings tables.now))) events.now) }
+    ensures narrow { IfOk result (λ l. HasOne (EventIsTooWide specification.now.axioms) events.now → ⊥) }
+    ensures wide { IfErr result (λ fault. fault ≡ RewriteFault.TooWide → HasOne (EventIsTooWide specification.now.axioms) events.now) }
 {
     let mut asked = List::new(alloc);
     for event in events {
-        asked.push(ask_event(alloc, event, tbox, mappings, tables)?)?;
+        asked.push(ask_event(alloc, event, specification, tables)?)?;
     }
     Ok(asked)
 }
@@ -132,20 +119,18 @@ fn ask_events(
 pub fn ask(
     alloc: Global,
     notes: &Annotations,
-    tbox: &Tbox,
-    mappings: &[Mapping],
+    specification: &Specification,
     tables: &[Table],
 ) -> Result<Asked, RewriteFault>
-    requires askable { AreAskable notes.now }
-    requires fit { AreFit mappings.now }
-    ensures asked { IfOk result (AreAsked (IsCertain tbox.now.axioms (mapped_facts mappings.now tables.now)) notes.now) }
+    requires { AreAskable notes.now }
+    ensures asked { IfOk result (AreAsked (IsCertain specification.now.axioms (mapped_facts specification.now.mappings tables.now)) notes.now) }
     ensures order { IfOk result IsInOrder }
-    ensures narrow { IfOk result (λ a. AsksTooWide tbox.now.axioms notes.now → ⊥) }
-    ensures wide { IfErr result (λ fault. fault ≡ RewriteFault.TooWide → AsksTooWide tbox.now.axioms notes.now) }
+    ensures narrow { IfOk result (λ a. AsksTooWide specification.now.axioms notes.now → ⊥) }
+    ensures wide { IfErr result (λ fault. fault ≡ RewriteFault.TooWide → AsksTooWide specification.now.axioms notes.now) }
 {
-    let cases = ask_query(alloc, notes.case_query(), tbox, mappings, tables)?;
-    let names = ask_query(alloc, notes.case_name(), tbox, mappings, tables)?;
-    let events = ask_events(alloc, notes.events(), tbox, mappings, tables)?;
+    let cases = ask_query(alloc, notes.case_query(), specification, tables)?;
+    let names = ask_query(alloc, notes.case_name(), specification, tables)?;
+    let events = ask_events(alloc, notes.events(), specification, tables)?;
     Ok(Asked {
         cases,
         names,

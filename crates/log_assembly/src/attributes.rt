@@ -4,70 +4,80 @@ ghost use Rattle.std.specs.List.{All};
 ghost use Rattle.log_assembly.specs.Answered.{InOrder};
 ghost use Rattle.log_assembly.specs.Found.{attribute_of, attributes_of, values_from};
 
+use crate::lent::{LentName, LentTerm};
 use crate::lookup::values_at;
+use crate::places::{keep_place, place_at};
 use annotation_language::{KeyNote, KeySource, Rule};
 use certain_answers::Answers;
 use std::alloc::{AllocError, Global};
-use vocabulary::{List, Name, Term};
+use vocabulary::{List, Term};
 
 /// A key of an object with all its values in order.
 #[derive(Debug, Drop)]
-pub struct Attribute {
-    pub key: Name,
+pub struct Attribute<'a> {
+    pub key: LentName<'a>,
     pub rule: Rule,
-    pub values: List<Term>,
+    pub values: List<LentTerm<'a>>,
 }
 
-fn values_from(
+fn values_from<'a>(
     alloc: Global,
-    source: &KeySource,
-    answers: &Answers,
+    source: &'a KeySource,
+    answers: &'a Answers,
     object: &Term,
-) -> Result<Vec<Term>, AllocError>
+    near: &mut usize,
+) -> Result<Vec<LentTerm<'a>>, AllocError>
     requires { InOrder answers.now }
     ensures { IfOk result (λ v. v.items ≡ values_from source.now object.now answers.now) }
 {
     match source {
         KeySource::Fixed(kind, text) => {
-            let mut values = Vec::new(alloc);
-            values.push(Term::Value(*kind, text.copy(alloc)?))?;
+            let mut values = Vec::with_capacity(alloc, 1)?;
+            values.push(LentTerm::value(*kind, text))?;
             Ok(values)
         }
-        KeySource::Asked(_, _) => values_at(alloc, answers, object),
+        KeySource::Asked(_, _) => values_at(alloc, answers, object, near),
     }
 }
 
-fn attribute_at(
+fn attribute_at<'a>(
     alloc: Global,
-    key: &KeyNote,
-    answers: &Answers,
+    key: &'a KeyNote,
+    answers: &'a Answers,
     object: &Term,
-) -> Result<Attribute, AllocError>
+    near: &mut usize,
+) -> Result<Attribute<'a>, AllocError>
     requires { InOrder answers.now }
     ensures { IfOk result (λ a. a ≡ attribute_of object.now key.now answers.now) }
 {
-    let values = values_from(alloc, &key.source, answers, object)?;
+    let values = values_from(alloc, &key.source, answers, object, near)?;
     Ok(Attribute {
-        key: key.key.copy(alloc)?,
+        key: LentName::of(&key.key),
         rule: key.rule,
         values: List::from_vec(values),
     })
 }
 
-/// The keys of the object with their values, in the order of the keys.
-pub(crate) fn attributes(
+/// The keys of the object with their values, in the order of the keys. The places of the keys have the
+/// numbers from `from` on.
+pub(crate) fn attributes<'a>(
     alloc: Global,
-    keys: &[KeyNote],
-    answers: &[Answers],
+    keys: &'a [KeyNote],
+    answers: &'a [Answers],
     object: &Term,
-) -> Result<Vec<Attribute>, AllocError>
+    places: &mut [usize],
+    from: usize,
+) -> Result<Vec<Attribute<'a>>, AllocError>
     requires { All InOrder answers.now }
     ensures { IfOk result (λ v. v.items ≡ attributes_of object.now keys.now answers.now) }
 {
-    let mut found = Vec::new(alloc);
+    let mut found = Vec::with_capacity(alloc, keys.len())?;
     let mut at = 0;
     while at < keys.len() && at < answers.len() {
-        found.push(attribute_at(alloc, &keys[at], &answers[at], object)?)?;
+        let number = from.saturating_add(at);
+        let mut near = place_at(places, number);
+        found.push(attribute_at(alloc, &keys[at], &answers[at], object, &mut near)?)?;
+        keep_place(places, number, near);
         at += 1;
     }
     Ok(found)

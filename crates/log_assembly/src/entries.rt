@@ -1,21 +1,26 @@
 //! The attributes of events and traces, and the times of events.
-ghost use Rattle.std.specs.Prelude.{◌≡◌, ◌+◌, ◌∷◌, [], ◌++◌, codes, decimal, IfOk, OnOk, option_copied, string_bytes};
-ghost use Rattle.log_assembly.specs.Judged.{entries_at, entries_of, lone_entry, time_of, times_at, times_of};
+ghost use Rattle.std.specs.Prelude.{◌≡◌, ◌+◌, ◌∷◌, [], ◌++◌, codes, decimal, IfOk, OnOk, string_bytes};
+ghost use Rattle.log_assembly.specs.Judged.{entries_at, entries_of, lone_entry, times_at, times_of};
 ghost use Rattle.log_assembly.specs.TheLog.{entry_of, numbered};
 
 use crate::attributes::Attribute;
+use crate::lent::{LentName, LentTerm};
 use annotation_language::Rule;
 use std::alloc::{AllocError, Global};
-use vocabulary::{Name, Side, Term, ValueKind};
+use vocabulary::Name;
 use xes_writer::Entry;
 
 /// The attribute of this key and value.
-pub(crate) fn entry(alloc: Global, key: &str, value: &Term) -> Result<Entry<Name>, AllocError>
+pub(crate) fn entry(
+    alloc: Global,
+    key: &str,
+    value: &LentTerm<'_>,
+) -> Result<Entry<Name>, AllocError>
     ensures { IfOk result (λ e. e ≡ entry_of key.now value.now) }
 {
     Ok(Entry {
         key: Name::new(alloc, key)?,
-        side: Side::of(value),
+        side: value.side(),
         value: value.text().copy(alloc)?,
     })
 }
@@ -34,7 +39,7 @@ fn push_numbered(
     alloc: Global,
     out: &mut Vec<Entry<Name>>,
     key: &Name,
-    values: &[Term],
+    values: &[LentTerm<'_>],
 ) -> Result<(), AllocError>
     ensures { OnOk result (out.new.items ≡ out.old.items ++ numbered key.now 1 values.now) }
 {
@@ -49,7 +54,7 @@ fn push_lone(
     alloc: Global,
     out: &mut Vec<Entry<Name>>,
     key: &Name,
-    values: &[Term],
+    values: &[LentTerm<'_>],
 ) -> Result<(), AllocError>
     ensures { OnOk result (out.new.items ≡ out.old.items ++ lone_entry key.now values.now) }
 {
@@ -62,14 +67,15 @@ fn push_lone(
 fn push_entries(
     alloc: Global,
     out: &mut Vec<Entry<Name>>,
-    attribute: &Attribute,
+    attribute: &Attribute<'_>,
 ) -> Result<(), AllocError>
     ensures { OnOk result (out.new.items ≡ out.old.items ++ entries_at attribute.now) }
 {
+    let key = attribute.key.name();
     let values = attribute.values.items();
     match attribute.rule {
-        Rule::Mandatory | Rule::Single => push_lone(alloc, out, &attribute.key, values),
-        Rule::Many => push_numbered(alloc, out, &attribute.key, values),
+        Rule::Mandatory | Rule::Single => push_lone(alloc, out, key, values),
+        Rule::Many => push_numbered(alloc, out, key, values),
     }
 }
 
@@ -77,7 +83,7 @@ fn push_entries(
 pub(crate) fn push_all(
     alloc: Global,
     out: &mut Vec<Entry<Name>>,
-    attributes: &[Attribute],
+    attributes: &[Attribute<'_>],
 ) -> Result<(), AllocError>
     ensures { OnOk result (out.new.items ≡ out.old.items ++ entries_of attributes.now) }
 {
@@ -87,36 +93,30 @@ pub(crate) fn push_all(
     Ok(())
 }
 
-fn time_of(term: &Term) -> Option<&Name>
-    ensures { option_copied result ≡ time_of term.now }
-{
-    match term {
-        Term::Value(ValueKind::Time, text) => Some(text),
-        _ => None,
-    }
-}
-
-fn push_times(alloc: Global, out: &mut Vec<Name>, attribute: &Attribute) -> Result<(), AllocError>
+fn push_times<'a>(out: &mut Vec<LentName<'a>>, attribute: &Attribute<'a>) -> Result<(), AllocError>
     ensures { OnOk result (out.new.items ≡ out.old.items ++ times_at attribute.now) }
 {
-    if attribute.key.text() != "time:timestamp" {
+    if attribute.key.name().text() != "time:timestamp" {
         return Ok(());
     }
     for value in attribute.values.items() {
-        if let Some(time) = time_of(value) {
-            out.push(time.copy(alloc)?)?;
+        if let Some(time) = value.time() {
+            out.push(time)?;
         }
     }
     Ok(())
 }
 
 /// The times that the keys give an event, in canonical text.
-pub(crate) fn times(alloc: Global, attributes: &[Attribute]) -> Result<Vec<Name>, AllocError>
+pub(crate) fn times<'a>(
+    alloc: Global,
+    attributes: &[Attribute<'a>],
+) -> Result<Vec<LentName<'a>>, AllocError>
     ensures { IfOk result (λ v. v.items ≡ times_of attributes.now) }
 {
     let mut out = Vec::new(alloc);
     for attribute in attributes {
-        push_times(alloc, &mut out, attribute)?;
+        push_times(&mut out, attribute)?;
     }
     Ok(out)
 }

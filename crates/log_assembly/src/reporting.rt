@@ -8,12 +8,14 @@ ghost use Rattle.log_assembly.specs.TheReport.{IsReportOf, case_line, counts_lin
 
 use crate::asked::{Asked, AskedEvent};
 use crate::attributes::attributes;
+use crate::lent::LentIri;
 use crate::lookup::{cases_at, names, values_at};
+use crate::places::Places;
 use crate::verdict::{Judgement, Verdict, Why, judge};
 use annotation_language::{Annotations, EventNote};
 use certain_answers::Answers;
 use std::alloc::{AllocError, Global};
-use vocabulary::{List, Name, Term};
+use vocabulary::{List, Name};
 use xes_writer::{Log, TraceRow};
 
 fn judgement(
@@ -21,17 +23,19 @@ fn judgement(
     cases: &Answers,
     event: &EventNote,
     answers: &AskedEvent,
-    object: &Name,
+    object: &LentIri<'_>,
+    near: &mut Places,
 ) -> Result<Judgement, AllocError>
     requires cases { InOrder cases.now }
     requires answers { IsEventInOrder answers.now }
     ensures { IfOk result (λ j. j ≡ judgement_of cases.now.tuples event.now answers.now object.now) }
 {
-    let term = Term::Named(object.copy(alloc)?);
-    let found = attributes(alloc, event.keys.items(), answers.keys.items(), &term)?;
-    let homes = cases_at(alloc, cases, &answers.cases, &term)?;
+    let keys = event.keys.items();
+    let term = object.term();
+    let found = attributes(alloc, keys, answers.keys.items(), term, &mut near.keys, 0)?;
+    let homes = cases_at(alloc, cases, &answers.cases, term, near)?;
     Ok(Judgement {
-        object: object.copy(alloc)?,
+        object: object.name().copy(alloc)?,
         verdict: judge(alloc, &found, &homes)?,
     })
 }
@@ -48,8 +52,9 @@ fn judgements(
 {
     let objects = names(alloc, &answers.objects)?;
     let mut judged = List::new(alloc);
+    let mut near = Places::new(alloc, event.keys.len())?;
     for object in &objects {
-        judged.push(judgement(alloc, cases, event, answers, object)?)?;
+        judged.push(judgement(alloc, cases, event, answers, object, &mut near)?)?;
     }
     Ok(judged)
 }
@@ -73,25 +78,30 @@ fn judge_all(
     Ok(judged)
 }
 
-fn has_names(alloc: Global, names: &Answers, case: &Name) -> Result<bool, AllocError>
+fn has_names(
+    alloc: Global,
+    names: &Answers,
+    case: &LentIri<'_>,
+    near: &mut usize,
+) -> Result<bool, AllocError>
     requires { InOrder names.now }
     ensures { IfOk result (λ b. b ≡ has_names names.now.tuples case.now) }
 {
-    let term = Term::Named(case.copy(alloc)?);
-    let values = values_at(alloc, names, &term)?;
+    let values = values_at(alloc, names, case.term(), near)?;
     Ok(values.len() > 1)
 }
 
 // The cases with several names.
-fn several(alloc: Global, asked: &Asked) -> Result<Vec<Name>, AllocError>
+fn several<'a>(alloc: Global, asked: &'a Asked) -> Result<Vec<LentIri<'a>>, AllocError>
     requires { IsInOrder asked.now }
     ensures { IfOk result (λ v. v.items ≡ filter (has_names asked.now.names.tuples) (names_of asked.now.cases.tuples)) }
 {
     let cases = names(alloc, &asked.cases)?;
     let mut several = Vec::new(alloc);
+    let mut near = 0;
     for case in &cases {
-        if has_names(alloc, &asked.names, case)? {
-            several.push(case.copy(alloc)?)?;
+        if has_names(alloc, &asked.names, case, &mut near)? {
+            several.push(case.lend())?;
         }
     }
     Ok(several)
@@ -161,15 +171,15 @@ fn push_counts(
 }
 
 #[tactic(auto, unfolding(crate::specs::TheReport::case_line))]
-fn push_case(out: &mut Vec<u8>, case: &Name) -> Result<(), AllocError>
+fn push_case(out: &mut Vec<u8>, case: &LentIri<'_>) -> Result<(), AllocError>
     ensures { OnOk result (out.new.items ≡ out.old.items ++ case_line case.now) }
 {
     push(out, "several: case <")?;
-    push(out, case.text())?;
+    push(out, case.name().text())?;
     push(out, "> concept:name\n")
 }
 
-fn push_several(out: &mut Vec<u8>, cases: &[Name]) -> Result<(), AllocError>
+fn push_several(out: &mut Vec<u8>, cases: &[LentIri<'_>]) -> Result<(), AllocError>
     ensures { OnOk result (out.new.items ≡ out.old.items ++ flat_map case_line cases.now) }
 {
     for case in cases {

@@ -6,31 +6,36 @@ ghost use Rattle.log_assembly.specs.Answered.{InOrder, IsEventInOrder, IsInOrder
 ghost use Rattle.log_assembly.specs.Found.{values_at};
 ghost use Rattle.log_assembly.specs.Gathered.{log_of, occurrence_cmp, row_by, row_of, title_of, trace_of};
 ghost use Rattle.log_assembly.specs.TheLog.{IsLogOf};
+ghost use Rattle.vocabulary.specs.declared.term.Term.{Named};
 
 use crate::asked::{Asked, AskedEvent};
 use crate::attributes::attributes;
 use crate::entries::{entry, push_all};
+use crate::lent::{LentIri, LentTerm};
 use crate::lookup::{names, values_at};
 use crate::occurrences::{Occurrence, at_case, occurrences};
 use annotation_language::{Annotations, EventNote};
 use certain_answers::Answers;
 use std::alloc::{AllocError, Global};
-use vocabulary::{List, Name, Term, ValueKind};
+use vocabulary::{List, Name, ValueKind};
 use xes_writer::{EventRow, Log, TraceRow};
 
 fn filled_row(
     alloc: Global,
     event: &EventNote,
     answers: &AskedEvent,
-    object: &Name,
+    object: &LentIri<'_>,
+    places: &mut [usize],
+    from: usize,
 ) -> Result<EventRow<Name>, AllocError>
     requires { IsEventInOrder answers.now }
     ensures { IfOk result (λ row. row ≡ row_by object.now (Some event.now) (Some answers.now)) }
 {
-    let term = Term::Named(object.copy(alloc)?);
-    let found = attributes(alloc, event.keys.items(), answers.keys.items(), &term)?;
-    let mut entries = Vec::new(alloc);
-    entries.push(entry(alloc, "object", &term)?)?;
+    let keys = event.keys.items();
+    let term = object.term();
+    let found = attributes(alloc, keys, answers.keys.items(), term, places, from)?;
+    let mut entries = Vec::with_capacity(alloc, found.len().saturating_add(1))?;
+    entries.push(entry(alloc, "object", &LentTerm::of(term))?)?;
     push_all(alloc, &mut entries, &found)?;
     Ok(EventRow {
         entries: List::from_vec(entries),
@@ -41,14 +46,23 @@ fn row(
     alloc: Global,
     events: &[EventNote],
     asked: &[AskedEvent],
-    occurrence: &Occurrence,
+    occurrence: &Occurrence<'_>,
+    places: &mut [usize],
 ) -> Result<EventRow<Name>, AllocError>
     requires { All IsEventInOrder asked.now }
     ensures { IfOk result (λ row. row ≡ row_of events.now asked.now occurrence.now) }
 {
     let place = occurrence.place;
     if place < events.len() && place < asked.len() {
-        filled_row(alloc, &events[place], &asked[place], &occurrence.object)
+        let (event, answers) = (&events[place], &asked[place]);
+        filled_row(
+            alloc,
+            event,
+            answers,
+            &occurrence.object,
+            places,
+            occurrence.places,
+        )
     } else {
         Ok(EventRow {
             entries: List::new(alloc),
@@ -60,27 +74,33 @@ fn rows(
     alloc: Global,
     events: &[EventNote],
     asked: &[AskedEvent],
-    occurrences: &[Occurrence],
+    occurrences: &[Occurrence<'_>],
+    places: &mut [usize],
 ) -> Result<Vec<EventRow<Name>>, AllocError>
     requires { All IsEventInOrder asked.now }
     ensures { IfOk result (λ v. v.items ≡ map (row_of events.now asked.now) occurrences.now) }
 {
-    let mut rows = Vec::new(alloc);
+    let mut rows = Vec::with_capacity(alloc, occurrences.len())?;
     for occurrence in occurrences {
-        rows.push(row(alloc, events, asked, occurrence)?)?;
+        rows.push(row(alloc, events, asked, occurrence, places)?)?;
     }
     Ok(rows)
 }
 
 // The one name of the case, else a text of its IRI.
-fn title(alloc: Global, names: &Answers, term: &Term, case: &Name) -> Result<Term, AllocError>
+fn title<'a>(
+    alloc: Global,
+    names: &'a Answers,
+    case: &LentIri<'a>,
+    near: &mut usize,
+) -> Result<LentTerm<'a>, AllocError>
     requires { InOrder names.now }
-    ensures { IfOk result (λ title. title ≡ title_of case.now (values_at term.now names.now.tuples)) }
+    ensures { IfOk result (λ title. title ≡ title_of case.now (values_at (Named case.now) names.now.tuples)) }
 {
-    let values = values_at(alloc, names, term)?;
+    let values = values_at(alloc, names, case.term(), near)?;
     match values.as_slice() {
-        [name] => name.copy(alloc),
-        _ => Ok(Term::Value(ValueKind::Text, case.copy(alloc)?)),
+        [name] => Ok(name.lend()),
+        _ => Ok(LentTerm::value(ValueKind::Text, case.name())),
     }
 }
 
@@ -88,22 +108,23 @@ fn trace(
     alloc: Global,
     notes: &Annotations,
     asked: &Asked,
-    occurrences: &[Occurrence],
-    case: &Name,
+    occurrences: &[Occurrence<'_>],
+    case: &LentIri<'_>,
+    near: &mut usize,
+    places: &mut [usize],
 ) -> Result<TraceRow<Name>, AllocError>
     requires asked { IsInOrder asked.now }
     requires occurrences { IsStrictlySortedBy occurrence_cmp occurrences.now }
     ensures { IfOk result (λ trace. trace ≡ trace_of notes.now asked.now occurrences.now case.now) }
 {
-    let term = Term::Named(case.copy(alloc)?);
-    let title = title(alloc, &asked.names, &term, case)?;
-    let mut entries = List::new(alloc);
-    entries.push(entry(alloc, "object", &term)?)?;
+    let title = title(alloc, &asked.names, case, near)?;
+    let mut entries = Vec::with_capacity(alloc, 2)?;
+    entries.push(entry(alloc, "object", &LentTerm::of(case.term()))?)?;
     entries.push(entry(alloc, "concept:name", &title)?)?;
     let here = at_case(occurrences, case);
-    let events = rows(alloc, notes.events(), asked.events.items(), here)?;
+    let events = rows(alloc, notes.events(), asked.events.items(), here, places)?;
     Ok(TraceRow {
-        entries,
+        entries: List::from_vec(entries),
         events: List::from_vec(events),
     })
 }
@@ -112,7 +133,8 @@ fn log_of(
     alloc: Global,
     notes: &Annotations,
     asked: &Asked,
-    occurrences: &[Occurrence],
+    occurrences: &[Occurrence<'_>],
+    places: &mut [usize],
 ) -> Result<Log<Name>, AllocError>
     requires asked { IsInOrder asked.now }
     requires occurrences { IsStrictlySortedBy occurrence_cmp occurrences.now }
@@ -120,8 +142,9 @@ fn log_of(
 {
     let cases = names(alloc, &asked.cases)?;
     let mut traces = List::new(alloc);
+    let mut near = 0;
     for case in &cases {
-        traces.push(trace(alloc, notes, asked, occurrences, case)?)?;
+        traces.push(trace(alloc, notes, asked, occurrences, case, &mut near, places)?)?;
     }
     Ok(Log { traces })
 }
@@ -132,6 +155,8 @@ pub fn assemble(alloc: Global, notes: &Annotations, asked: &Asked) -> Result<Log
     requires { IsInOrder asked.now }
     ensures { IfOk result (IsLogOf notes.now asked.now) }
 {
-    let found = occurrences(alloc, &asked.cases, notes.events(), asked.events.items())?;
-    log_of(alloc, notes, asked, &found)
+    let mut places = Vec::new(alloc);
+    let events = asked.events.items();
+    let found = occurrences(alloc, &asked.cases, notes.events(), events, &mut places)?;
+    log_of(alloc, notes, asked, &found, &mut places)
 }

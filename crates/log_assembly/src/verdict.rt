@@ -3,6 +3,7 @@ ghost use Rattle.std.specs.Prelude.{◌≡◌, IfOk, option_copied};
 ghost use Rattle.log_assembly.specs.Judged.{dropped, first_unmet, is_dropped, is_kept, is_met, verdict_of, why_of};
 
 use crate::attributes::Attribute;
+use crate::lent::LentIri;
 use annotation_language::Rule;
 use std::alloc::{AllocError, Global};
 use vocabulary::{List, Name};
@@ -29,7 +30,7 @@ pub struct Judgement {
     pub verdict: Verdict,
 }
 
-impl Attribute {
+impl Attribute<'_> {
     fn is_met(&self) -> bool
         ensures { result ≡ is_met self.now }
     {
@@ -52,7 +53,7 @@ impl Attribute {
     fn why(&self, alloc: Global) -> Result<Why, AllocError>
         ensures { IfOk result (λ why. why ≡ why_of self.now) }
     {
-        let key = self.key.copy(alloc)?;
+        let key = self.key.name().copy(alloc)?;
         if self.values.is_empty() {
             Ok(Why::NoValue(key))
         } else {
@@ -61,26 +62,26 @@ impl Attribute {
     }
 }
 
-fn first_unmet(attributes: &[Attribute]) -> Option<&Attribute>
+fn first_unmet<'a, 'b>(attributes: &'b [Attribute<'a>]) -> Option<&'b Attribute<'a>>
     ensures { option_copied result ≡ first_unmet attributes.now }
 {
     attributes.iter().find(|attribute| !attribute.is_met())
 }
 
 /// Whether an object with these keys and cases is an event of the log.
-pub(crate) fn is_kept(attributes: &[Attribute], cases: &[Name]) -> bool
+pub(crate) fn is_kept(attributes: &[Attribute<'_>], cases: &[LentIri<'_>]) -> bool
     ensures { result ≡ is_kept attributes.now cases.now }
 {
     !cases.is_empty() && first_unmet(attributes).is_none()
 }
 
-fn dropped(alloc: Global, attributes: &[Attribute]) -> Result<Vec<Name>, AllocError>
+fn dropped(alloc: Global, attributes: &[Attribute<'_>]) -> Result<Vec<Name>, AllocError>
     ensures { IfOk result (λ v. v.items ≡ dropped attributes.now) }
 {
     let mut keys = Vec::new(alloc);
     for attribute in attributes {
         if attribute.is_dropped() {
-            keys.push(attribute.key.copy(alloc)?)?;
+            keys.push(attribute.key.name().copy(alloc)?)?;
         }
     }
     Ok(keys)
@@ -89,8 +90,8 @@ fn dropped(alloc: Global, attributes: &[Attribute]) -> Result<Vec<Name>, AllocEr
 /// What becomes of an object with these keys and cases.
 pub(crate) fn judge(
     alloc: Global,
-    attributes: &[Attribute],
-    cases: &[Name],
+    attributes: &[Attribute<'_>],
+    cases: &[LentIri<'_>],
 ) -> Result<Verdict, AllocError>
     ensures { IfOk result (λ verdict. verdict ≡ verdict_of attributes.now cases.now) }
 {

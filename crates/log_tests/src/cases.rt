@@ -55,7 +55,12 @@ fn joined(alloc: Global, status: Status, text: &[u8], report: &[u8]) -> Result<B
     Ok(told)
 }
 
-fn told<S: Shelf>(alloc: Global, shelf: &mut S, words: &str) -> Result<Bytes, AllocError> {
+/// What a run by these words tells.
+pub(crate) fn told<S: Shelf>(
+    alloc: Global,
+    shelf: &mut S,
+    words: &str,
+) -> Result<Bytes, AllocError> {
     let words = words_of(alloc, words)?;
     let mut out = SureSink::new(alloc);
     let mut report = SureSink::new(alloc);

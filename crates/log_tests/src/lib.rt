@@ -12,14 +12,20 @@ mod conflicts;
 #[cfg(test)]
 mod derivations;
 #[cfg(test)]
+mod failing;
+#[cfg(test)]
 mod limits;
 #[cfg(test)]
 mod logs;
 #[cfg(test)]
 mod made;
 #[cfg(test)]
+mod models;
+#[cfg(test)]
 mod running;
 #[cfg(test)]
 mod small;
+#[cfg(test)]
+mod streaming;
 #[cfg(test)]
 mod writing;

@@ -49,7 +49,7 @@ const EVENT: &str = "    <event>
 const BACK: &str = "  </trace>\n</log>\n";
 
 const USAGE: &str =
-    "usage: extract P | check P | verify P D | answer P Q | rewrite P Q | make N F\n";
+    "usage: extract P | check P | verify P D | answer P Q | rewrite P Q | make N F | lint P | contained P Q Q\n";
 
 // Whether the command ends so over the shelf, with this text and this report.
 fn ends<S: Shelf>(

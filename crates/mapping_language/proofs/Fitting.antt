@@ -14,7 +14,8 @@ use Rattle.mapping_facts.specs.Fits.{PlaceFits, ConditionFits, TermFits, TargetF
 use Rattle.mapping_language.specs.declared.sources.Sources.{Sources}
 use Rattle.mapping_language.specs.Written.{Cell, OfCell, OfText, Condition, Same, Differs, Null, NotNull, Term, Iri, Column, Constant, Target, One, Two, MapLine}
 use Rattle.vocabulary.specs.declared.ids.Side.TheVariants.{Object}
-use Rattle.mapping_language.specs.Mappings.{class_places, link_places, class_targets, link_targets, or_zero, place_of, place_at, cell_of_hole, condition_of, template_or, row_term_of, tables_of, targets_of, mapping_of}
+use Rattle.line_lexer.specs.Judging.{or_zero}
+use Rattle.mapping_language.specs.Mappings.{class_places, link_places, class_targets, link_targets, place_of, place_at, cell_of_hole, condition_of, template_or, row_term_of, tables_of, targets_of, mapping_of}
 use Rattle.mapping_language.specs.Built.{IsWithinLimits}
 use Rattle.mapping_language.proofs.Targets.{as_many}
 

@@ -1,17 +1,11 @@
 -- Lists through a function on their items.
-use Rattle.std.proofs.Common.{◌≡◌, refl, ap, ◌∙◌, ◌||◌, ℕ, zero, suc, ◌+◌, ◌-◌, ◌<◌, ◌≤◌, Bool, true, false, List, [], ◌∷◌, ◌++◌, Option, map, take, drop, length, get_or, arith, add-one, take_all, drop-cons, cond, not, position, option_map, slice_get}
+use Rattle.std.proofs.Common.{◌≡◌, refl, ap, ◌∙◌, ◌||◌, ℕ, zero, suc, ◌+◌, ◌-◌, ◌<◌, ◌≤◌, Bool, true, false, List, [], ◌∷◌, ◌++◌, Option, map, take, drop, length, get_or, arith, add-one, drop-cons, cond, not, position, option_map, slice_get}
 use Rattle.std.proofs.Math.ListN.{set}
-use Rattle.std.specs.Str.{bytes_eq}
-use Rattle.line_lexer.specs.Judging.{has_twice}
 use Rattle.std.proofs.lemmas.Grind.{flat_map-append}
 use Rattle.std.specs.List.{list_any, flat_map, filter_map, position_or_len}
 use Rattle.std.proofs.lemmas.Option.{slice_get-map}
 use Rattle.std.proofs.lemmas.List.{map-append, take_more, length-map, drop_all, append-nil}
 use Rattle.std.proofs.lemmas.List.Elements.{filter_map-append}
-
-pub any_of_map : {X Y : Type 0} (p : Y → Bool) (f : X → Y) (xs : List X) → list_any p (map f xs) ≡ list_any (λ x. p (f x)) xs
-any_of_map p f [] = refl
-any_of_map p f (x ∷ xs) = ap (λ b. p (f x) || b) (any_of_map p f xs)
 
 module _ {X Y : Type 0} (f : X → Y) where
   -- what a function gives of one item more
@@ -36,26 +30,6 @@ module _ {X : Type 0} (f : X → X) where
   -- one item more is changed in its place
   pub changed_more : (xs ys : List X) (i : ℕ) (old new d : X) → i < length xs → ys ≡ map f (take i xs) ++ drop i xs → old ≡ get_or ys i d → new ≡ f old → set ys i new ≡ map f (take (i + 1) xs) ++ drop (i + 1) xs
   changed_more xs ys i old new d lt so was is = rw (is, was, so, add-one) (changed_suc xs i d lt)
-
-module _ {T : Type 0} (f : T → List ℕ) where
-  behind_first : (x : T) (xs : List T) → take (length (x ∷ xs) - 1) (drop 1 (x ∷ xs)) ≡ xs
-  behind_first x xs = let n : length (x ∷ xs) - 1 ≡ length xs = omega arith in rw n (take_all (length xs) xs (omega arith))
-
-  -- the first text is among those behind it
-  pub twice_now : (whole : Bool) (xs : List T) (d : T) → 1 ≤ length xs → whole ≡ has_twice (map f xs)
-      → true ≡ list_any (λ t. bytes_eq (f (get_or xs 0 d)) (f t)) (take (length xs - 1) (drop 1 xs)) → true ≡ whole
-  twice_now whole [] d some so is = absurd (omega arith)
-  twice_now whole (x ∷ xs) d some so is =
-      let first : true ≡ list_any (λ t. bytes_eq (f x) (f t)) xs = rw behind_first at is in
-      rw (so, any_of_map (bytes_eq (f x)) f xs, ← first) refl
-
-  -- it is not, and those behind it remain
-  pub twice_later : (whole : Bool) (xs : List T) (d : T) → 1 ≤ length xs → whole ≡ has_twice (map f xs)
-      → false ≡ list_any (λ t. bytes_eq (f (get_or xs 0 d)) (f t)) (take (length xs - 1) (drop 1 xs)) → whole ≡ has_twice (map f (take (length xs - 1) (drop 1 xs)))
-  twice_later whole [] d some so is = absurd (omega arith)
-  twice_later whole (x ∷ xs) d some so is =
-      let first : false ≡ list_any (λ t. bytes_eq (f x) (f t)) xs = rw behind_first at is in
-      rw (so, behind_first x xs, any_of_map (bytes_eq (f x)) f xs, ← first) refl
 
 position_or_len_of_map : {X Y : Type 0} (p : Y → Bool) (f : X → Y) (xs : List X) → position_or_len p (map f xs) ≡ position_or_len (λ x. p (f x)) xs
 position_or_len_of_map p f [] = refl

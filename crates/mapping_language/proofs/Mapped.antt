@@ -13,7 +13,8 @@ use Rattle.mapping_language.specs.declared.written.Source.{Source}
 use Rattle.mapping_language.specs.declared.written.Target.{Target}
 use Rattle.mapping_language.specs.declared.written.MapLine.{MapLine}
 use Rattle.mapping_language.specs.Tables.{table_number}
-use Rattle.mapping_language.specs.Mappings.{or_zero, condition_of, targets_of, mapping_of}
+use Rattle.line_lexer.specs.Judging.{or_zero}
+use Rattle.mapping_language.specs.Mappings.{condition_of, targets_of, mapping_of}
 use Rattle.mapping_language.specs.Shown.{source_shown, condition_shown, target_shown, map_shown}
 use Rattle.mapping_language.proofs.Lists.{map_of_map, gathered_of_map}
 

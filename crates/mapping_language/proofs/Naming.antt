@@ -24,7 +24,8 @@ use Rattle.vocabulary.specs.declared.ids.Side.{Side}
 use Rattle.vocabulary.specs.Lists.{In, here, there}
 use Rattle.mapping_facts.specs.declared.mapping.Mapping.{Mapping}
 use Rattle.mapping_language.specs.declared.sources.Sources.{Sources}
-use Rattle.mapping_language.specs.Grammar.{map_name, map_line, source, separated, conditions, target}
+use Rattle.line_lexer.specs.Separated.{separated}
+use Rattle.mapping_language.specs.Grammar.{map_name, map_line, source, conditions, target}
 use Rattle.mapping_language.specs.Written.{MapLine}
 use Rattle.mapping_language.specs.Mappings.{unknown, double, mismatch, is_bad, is_unbounded, all_templates, broken, mapping_of, grown, read_mapping_line}
 

@@ -23,7 +23,8 @@ use Rattle.mapping_facts.specs.declared.term.RowTerm.TheVariants.{Iri, Cell, Fix
 use Rattle.mapping_facts.specs.declared.mapping.Target.TheVariants.{InClass, Linked}
 use Rattle.mapping_facts.specs.declared.mapping.Mapping.{Mapping}
 use Rattle.mapping_language.specs.declared.sources.Sources.{Sources}
-use Rattle.mapping_language.specs.Grammar.{at_most, source_line, table_line, column_line, key_line, map_line, condition, target}
+use Rattle.line_lexer.specs.Separated.{at_most}
+use Rattle.mapping_language.specs.Grammar.{source_line, table_line, column_line, key_line, map_line, condition, target}
 use Rattle.line_lexer.specs.Judging.{first_broken}
 use Rattle.mapping_language.specs.Tables.{nothing, read_source_line, broken as broken_source, grown as grown_source}
 use Rattle.mapping_language.specs.Mappings.{holes, read_mapping_line, broken as broken_mapping, grown as grown_mapping}

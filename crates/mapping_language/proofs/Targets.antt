@@ -9,7 +9,7 @@ use Rattle.vocabulary.proofs.Lists.{In-append_cases}
 use Rattle.mapping_language.specs.declared.sources.Sources.{Sources}
 use Rattle.mapping_language.specs.Written.{Target, One, Two, MapLine}
 use Rattle.mapping_language.specs.Mappings.{class_places, link_places, class_targets, link_targets, targets_of}
-use Rattle.mapping_language.specs.Within.{IsTargetWithin, AreTargetsWithin}
+use Rattle.mapping_facts.specs.Within.{IsTargetWithin, AreTargetsWithin}
 
 module _ (s : Sources) (m : MapLine) (class_of : List ℕ → Option ClassId) (link_of : List ℕ → Option (LinkId × Side)) where
   target_alone : (t : Target) → length (targets_of class_of link_of s m t) ≤ 1

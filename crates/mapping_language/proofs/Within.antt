@@ -1,11 +1,9 @@
 -- A mapping line keeps the mappings few, and over the classes and links of the model.
-use Rattle.std.proofs.Common.{◌≡◌, refl, subst, ◌∙◌, ap, ◌+◌, ◌*◌, ◌<◌, ◌≤◌, ℕ, Bool, true, false, nat_lt, if◌then◌else◌, List, [], ◌∷◌, ◌++◌, Option, Some, None, Result, Ok, Err, OnOk, inl, inr, map, length, slice_get, option_map, option_and_then, arith, length-append}
+use Rattle.std.proofs.Common.{◌≡◌, refl, subst, ◌∙◌, ap, ◌+◌, ◌*◌, ◌<◌, ◌≤◌, ℕ, Bool, true, false, nat_lt, if◌then◌else◌, List, [], ◌∷◌, ◌++◌, Option, Some, None, Result, Ok, Err, OnOk, inl, inr, map, length, option_map, arith, length-append}
 use Rattle.std.specs.List.{list_any}
-use Rattle.std.specs.Str.{bytes_eq}
 use Rattle.std.proofs.lemmas.Bool.{ltb-false}
 use Rattle.std.proofs.lemmas.Grind.{flat_map-append}
 use Rattle.std.proofs.lemmas.List.{length-map, append-nil}
-use Rattle.std.proofs.lemmas.List.Quantifiers.{position-Some}
 use Rattle.line_lexer.specs.Faults.{limit_of}
 use Rattle.line_lexer.specs.Judging.{first_broken, first_passed}
 use Rattle.line_lexer.specs.Tokens.{tokens_of}
@@ -17,16 +15,17 @@ use Rattle.vocabulary.specs.declared.ids.ClassId.{ClassId}
 use Rattle.vocabulary.specs.declared.ids.LinkId.{LinkId}
 use Rattle.vocabulary.specs.declared.ids.Side.{Side}
 use Rattle.vocabulary.specs.Lists.{In, here, there}
-use Rattle.vocabulary.specs.Texts.{number_of}
 use Rattle.vocabulary.proofs.Lists.{In-append_cases}
 use Rattle.iri_templates.specs.Templates.{template_of}
 use Rattle.uml_model.specs.Rules.{Known, class_named, link_named}
+use Rattle.uml_model.proofs.Below.{class_below, link_below}
 use Rattle.mapping_facts.specs.declared.mapping.Mapping.{Mapping}
 use Rattle.mapping_language.specs.declared.sources.Sources.{Sources}
 use Rattle.mapping_language.specs.Grammar.{map_line}
 use Rattle.mapping_language.specs.Written.{MapLine}
 use Rattle.mapping_language.specs.Mappings.{unknown, mismatch, double, is_bad, is_unbounded, all_templates, broken, mapping_of, grown, read_mapping_line}
-use Rattle.mapping_language.specs.Within.{AreTargetsWithin, AreMappingsWithin, AreFew, with_targets}
+use Rattle.mapping_language.specs.Within.{AreFew}
+use Rattle.mapping_facts.specs.Within.{AreTargetsWithin, AreMappingsWithin, with_targets}
 use Rattle.mapping_language.proofs.Read.{leaves}
 use Rattle.mapping_language.proofs.Targets.{as_many, targets_within}
 
@@ -49,40 +48,6 @@ not_passed c n rest e = by (nat_lt (limit_of c) n) refl e
     by : (t : Bool) → nat_lt (limit_of c) n ≡ t → (if t then Some c else first_passed rest) ≡ None → (n ≤ limit_of c) × (first_passed rest ≡ None)
     by true is e = cc
     by false is e = (ltb-false (limit_of c) n is, e)
-
--- the numbers of names are below how many names there are
-number_below : (names : List (List ℕ)) (text : List ℕ) (n : ℕ) → number_of names text ≡ Some n → n < length names
-number_below names text n e = (position-Some (bytes_eq text) names n [] e).0
-
-class_below : (model : Known) (text : List ℕ) (c : ClassId) → class_named model text ≡ Some c → c.0 < length model.classes
-class_below model text c e = by (number_of model.classes text) refl e
-  where
-    by : (o : Option ℕ) → number_of model.classes text ≡ o → option_map (λ n. record { 0 = n }) o ≡ Some c → c.0 < length model.classes
-    by None f e = cc
-    by (Some n) f e = subst (λ (d : ClassId). d.0 < length model.classes) (is e) (number_below model.classes text n f)
-      where
-        is : option_map (λ n. record { 0 = n }) (Some n) ≡ Some c → record { 0 = n } ≡ c
-        is e = cc
-
-link_below : (model : Known) (text : List ℕ) (p : LinkId) (side : Side) → link_named model text ≡ Some (p, side) → p.0 < length model.links
-link_below model text p side e = by (number_of model.links text) refl e
-  where
-    sided : ℕ → Option Side → Option (LinkId × Side)
-    sided n o = option_map (λ side. (record { 0 = n }, side)) o
-
-    of_side : (n : ℕ) (o : Option Side) → sided n o ≡ Some (p, side) → n ≡ p.0
-    of_side n None e = cc
-    of_side n (Some other) e = ap (λ (l : LinkId × Side). l.0.0) (is e)
-      where
-        pair : ℕ → LinkId × Side
-        pair k = (record { 0 = k }, other)
-
-        is : Some (pair n) ≡ Some (p, side) → pair n ≡ (p, side)
-        is e = cc
-
-    by : (o : Option ℕ) → number_of model.links text ≡ o → option_and_then (λ n. sided n (slice_get model.sides n)) o ≡ Some (p, side) → p.0 < length model.links
-    by None f e = cc
-    by (Some n) f e = subst (λ k. k < length model.links) (of_side n (slice_get model.sides n) e) (number_below model.links text n f)
 
 module _ (class_of : List ℕ → Option ClassId) (link_of : List ℕ → Option (LinkId × Side)) (s : Sources) (m : MapLine) where
   grown_within : (classes links : ℕ) → ((text : List ℕ) (c : ClassId) → class_of text ≡ Some c → c.0 < classes) → ((text : List ℕ) (p : LinkId) (side : Side) → link_of text ≡ Some (p, side) → p.0 < links)

@@ -1,41 +1,10 @@
 -- The grammar of source lines and mapping lines, over the tokens of a line.
-use Rattle.std.specs.Prelude.{ℕ, zero, suc, List, [], ◌∷◌, Option, Some, None, if◌then◌else◌, length, codes}
-use Rattle.std.specs.Str.{bytes_eq}
+use Rattle.std.specs.Prelude.{ℕ, List, [], ◌∷◌, Option, Some, None, if◌then◌else◌, codes}
 use Rattle.line_lexer.specs.Tokens.{Seen}
-use Rattle.line_lexer.specs.Grammar.{◌>>=◌, either, expect, any_word, any_quoted, name, ended}
-use Rattle.vocabulary.specs.declared.ids.ValueKind.{ValueKind}
-use Rattle.vocabulary.specs.declared.ids.ValueKind.TheVariants.{Text, Int, Bool as Boolean, Time}
+use Rattle.line_lexer.specs.Grammar.{◌>>=◌, either, expect, any_quoted, name, ended}
+use Rattle.line_lexer.specs.Separated.{separated}
+use Rattle.uml_model.specs.Lines.{kind}
 use Rattle.mapping_language.specs.Written.{SourceLine, Table, Column, Key, Cell, Other, OfCell, OfText, Condition, Same, Differs, Null, NotNull, Term, Iri, Column as ColumnTerm, Constant, Target, One, Two, Source, MapLine}
-
--- one item before the others, where they are there
-abbrev pub in_front : {A : Type 0} → A → Option (List A × List Seen) → Option (List A × List Seen)
-in_front x None = None
-in_front x (Some (xs, rest)) = Some (x ∷ xs, rest)
-
--- from one to so many items with this text between each two; an item takes a token at least, so as many as there are tokens is no bound
-unfoldable pub at_most : {A : Type 0} → ℕ → List ℕ → (List Seen → Option (A × List Seen)) → List Seen → Option (List A × List Seen)
-at_most zero between item tokens = None
-at_most (suc most) between item tokens = item tokens >>= (λ x.
-    either (expect between x.1) (λ rest. in_front x.0 (at_most most between item rest)) (Some (x.0 ∷ [], x.1)))
-
--- one item or more, with this text between each two
-abbrev pub separated : {A : Type 0} → List ℕ → (List Seen → Option (A × List Seen)) → List Seen → Option (List A × List Seen)
-separated between item tokens = at_most (length tokens) between item tokens
-
--- the kind that a word names
-abbrev pub kind_of : List ℕ → Option ValueKind
-kind_of word =
-    if bytes_eq word (codes "text") then Some Text
-    else (if bytes_eq word (codes "int") then Some Int
-    else (if bytes_eq word (codes "bool") then Some Boolean
-    else (if bytes_eq word (codes "time") then Some Time else None)))
-
--- KIND: `text`, `int`, `bool` or `time`
-abbrev pub kind : List Seen → Option (ValueKind × List Seen)
-kind tokens = do
-  word ← any_word tokens
-  found ← kind_of word.0
-  Some (found, word.1)
 
 -- nothing more, or a word with a quoted text, and nothing more
 abbrev pub with_text : List ℕ → List Seen → Option (Option (List ℕ))

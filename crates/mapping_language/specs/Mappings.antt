@@ -12,7 +12,7 @@ use Rattle.vocabulary.specs.declared.ids.TableId.{TableId}
 use Rattle.vocabulary.specs.declared.ids.Side.{Side}
 use Rattle.vocabulary.specs.declared.ids.Side.TheVariants.{Object, Value}
 use Rattle.vocabulary.specs.declared.ids.ValueKind.{ValueKind}
-use Rattle.vocabulary.specs.declared.ids.ValueKind.TheVariants.{Text, Int, Bool as Boolean, Time}
+use Rattle.vocabulary.specs.declared.ids.ValueKind.TheVariants.{Text}
 use Rattle.vocabulary.specs.declared.term.Term.{Value as ValueTerm}
 use Rattle.iri_templates.specs.declared.fault.TemplateFault.{TemplateFault}
 use Rattle.iri_templates.specs.declared.fault.TemplateFault.TheVariants as template_fault
@@ -34,15 +34,9 @@ use Rattle.mapping_facts.specs.declared.mapping.Mapping.{Mapping}
 use Rattle.mapping_language.specs.declared.sources.Sources.{Sources}
 use Rattle.mapping_language.specs.Written.{Cell, Other, OfCell, OfText, Condition, Same, Differs, Null, NotNull, Term, Iri, Column, Constant, Target, One, Two, MapLine}
 use Rattle.mapping_language.specs.Grammar.{map_line}
-use Rattle.line_lexer.specs.Judging.{first_broken, has_twice, read_by}
+use Rattle.line_lexer.specs.Judging.{first_broken, has_twice, read_by, or_zero, text_or_none}
+use Rattle.uml_model.specs.Rules.{same_kind}
 use Rattle.mapping_language.specs.Tables.{table_number, table_named, column_number, column_named}
-
-abbrev pub same_kind : ValueKind → ValueKind → Bool
-same_kind Text Text = true
-same_kind Int Int = true
-same_kind Boolean Boolean = true
-same_kind Time Time = true
-same_kind k l = false
 
 -- the place of an alias among the tables of a mapping
 abbrev pub place_of : MapLine → List ℕ → Option ℕ
@@ -183,11 +177,6 @@ is_unbounded (Ok t) = false
 is_unbounded (Err (template_fault.NotBounded hole)) = true
 is_unbounded (Err other) = false
 
--- the number, or 0 where there is none
-abbrev pub or_zero : Option ℕ → ℕ
-or_zero None = 0
-or_zero (Some n) = n
-
 abbrev pub number_in : Option TableDecl → List ℕ → ℕ
 number_in None c = 0
 number_in (Some table) c = or_zero (column_number table c)
@@ -195,10 +184,6 @@ number_in (Some table) c = or_zero (column_number table c)
 -- the place of a cell: its alias among the tables of the mapping, and its column
 abbrev pub place_at : Sources → MapLine → Cell → Place
 place_at s m cell = record { table = or_zero (place_of m cell.alias); col = col (number_in (table_under s m cell.alias) cell.column) }
-
-abbrev pub text_or_none : Option (List ℕ) → List ℕ
-text_or_none None = []
-text_or_none (Some text) = text
 
 -- the canonical text of a constant that is one of its kind
 abbrev pub constant : ℤ → Option ValueKind → List ℕ → List ℕ

@@ -1,5 +1,5 @@
 //! The mapping that a mapping line is.
-ghost use Rattle.std.specs.Prelude.{◌≡◌, ◌++◌, ◌∷◌, [], map, option_map, pos, IfOk, OnOk, Some};
+ghost use Rattle.std.specs.Prelude.{◌≡◌, ◌++◌, ◌∷◌, [], map, IfOk, OnOk, Some};
 ghost use Rattle.std.specs.List.{flat_map};
 ghost use Rattle.std.specs.Option.{option_copied};
 ghost use Rattle.jiff_core.specs.Calendar.{IsWithin};
@@ -7,8 +7,9 @@ ghost use Rattle.uml_model.specs.Rules.{class_named, link_named};
 ghost use Rattle.iri_templates.specs.Templates.{template_of as template_by, hole_texts};
 ghost use Rattle.mapping_language.specs.Tables.{table_number as number_of_table};
 ghost use Rattle.mapping_language.specs.Changes.{HaveOffsets};
-ghost use Rattle.mapping_language.specs.Mappings.{or_zero as zero_or, number_in as number_of_column, place_at as place_of_cell, cell_of_hole as cell_named, constant as constant_text, constant_at as constant_of_cell, condition_of as condition_by, kind_of_side as side_kind, row_term_of as row_term_by, targets_of as targets_by, mapping_of as mapping_by};
-ghost use Rattle.mapping_language.specs.Shown.{cell_shown, condition_shown, term_shown, target_shown, source_shown, map_shown};
+ghost use Rattle.line_lexer.specs.Judging.{or_zero as zero_or};
+ghost use Rattle.mapping_language.specs.Mappings.{number_in as number_of_column, place_at as place_of_cell, cell_of_hole as cell_named, constant as constant_text, constant_at as constant_of_cell, condition_of as condition_by, kind_of_side as side_kind, row_term_of as row_term_by, targets_of as targets_by, mapping_of as mapping_by};
+ghost use Rattle.mapping_language.specs.Shown.{cell_shown, condition_shown, term_shown, target_shown, map_shown};
 
 use crate::Sources;
 use crate::holes::cell_of_hole;

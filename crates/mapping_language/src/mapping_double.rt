@@ -6,8 +6,8 @@ ghost use Rattle.mapping_language.specs.Mappings.{double};
 ghost use Rattle.mapping_language.specs.Shown.{map_shown};
 
 use crate::Sources;
-use crate::tables::has_twice;
 use crate::written::{MapLine, Source};
+use line_lexer::has_twice;
 use std::alloc::{AllocError, Global};
 
 fn is_taken(sources: &Sources, name: &str) -> bool

@@ -1,7 +1,8 @@
 //! The grammar of mapping lines.
 ghost use Rattle.std.specs.Prelude.{◌≡◌, ◌<◌, length, map, option_map, codes, IfOk, IfSome};
 ghost use Rattle.line_lexer.specs.Tokens.{seen};
-ghost use Rattle.mapping_language.specs.Grammar.{separated, cell as cell_at, other as other_at, nullness as nullness_at, condition as condition_at, term as term_at, target as target_at, source as source_at, conditions as conditions_at, map_line as map_line_at, map_name as map_name_at};
+ghost use Rattle.line_lexer.specs.Separated.{separated};
+ghost use Rattle.mapping_language.specs.Grammar.{cell as cell_at, other as other_at, nullness as nullness_at, condition as condition_at, term as term_at, target as target_at, source as source_at, conditions as conditions_at, map_line as map_line_at, map_name as map_name_at};
 ghost use Rattle.mapping_language.specs.Shown.{cell_shown, other_shown, condition_shown, term_shown, target_shown, source_shown, map_shown};
 
 use crate::source_grammar::Left;

@@ -1,5 +1,5 @@
 //! Whether the terms and conditions of a mapping line fit where they stand.
-ghost use Rattle.std.specs.Prelude.{◌≡◌, ◌==◌, not, length, is_some, IfOk};
+ghost use Rattle.std.specs.Prelude.{◌≡◌, ◌==◌, not, is_some, IfOk};
 ghost use Rattle.std.specs.List.{list_any};
 ghost use Rattle.jiff_core.specs.Calendar.{IsWithin};
 ghost use Rattle.uml_model.specs.Rules.{class_named, link_named};
@@ -178,7 +178,7 @@ fn has_misfit(
 }
 
 /// A target or a condition has what does not fit there.
-#[tactic(auto, using(crate::proofs::Lists::any_of_map, crate::proofs::Cells::misfits))]
+#[tactic(auto, using(line_lexer::proofs::Twice::any_of_map, crate::proofs::Cells::misfits))]
 pub(crate) fn mismatch(
     alloc: Global,
     sources: &Sources,

@@ -1,7 +1,6 @@
 //! Names, cells and holes of mapping lines that nothing declares.
-ghost use Rattle.std.specs.Prelude.{◌≡◌, ◌||◌, not, map, nat_lt, is_some, IfOk};
+ghost use Rattle.std.specs.Prelude.{◌≡◌, ◌||◌, not, map, is_some};
 ghost use Rattle.std.specs.List.{list_any, flat_map};
-ghost use Rattle.line_lexer.specs.Faults.{limit_of};
 ghost use Rattle.uml_model.specs.Rules.{class_named, link_named};
 ghost use Rattle.iri_templates.specs.Templates.{hole_at};
 ghost use Rattle.mapping_language.specs.Tables.{table_number};
@@ -128,7 +127,7 @@ fn has_unknown_name(model: &Model, targets: &[Target<'_>]) -> bool
     targets.iter().any(|t| is_unknown_name(model, t))
 }
 
-#[tactic(auto, using(crate::proofs::Lists::any_of_map, crate::proofs::Cells::unknown_cells))]
+#[tactic(auto, using(line_lexer::proofs::Twice::any_of_map, crate::proofs::Cells::unknown_cells))]
 pub(crate) fn unknown(sources: &Sources, model: &Model, line: &MapLine<'_>) -> bool
     ensures { result ≡ unknown (class_named model.now) (link_named model.now) sources.now (map_shown line.now) }
 {

@@ -4,7 +4,8 @@ ghost use Rattle.line_lexer.specs.Names.{AreNames};
 ghost use Rattle.mapping_language.specs.Changes.{HaveOffsets};
 ghost use Rattle.mapping_language.specs.Mappings.{read_mapping_line};
 ghost use Rattle.mapping_language.specs.Tables.{read_source_line};
-ghost use Rattle.mapping_language.specs.Within.{AreFew, AreMappingsWithin};
+ghost use Rattle.mapping_language.specs.Within.{AreFew};
+ghost use Rattle.mapping_facts.specs.Within.{AreMappingsWithin};
 ghost use Rattle.mapping_facts.specs.Fits.{AreFit};
 ghost use Rattle.uml_model.specs.Rules.{class_named, link_named};
 

@@ -1,67 +1,19 @@
 //! The grammar of source lines.
-ghost use Rattle.std.specs.Prelude.{◌≡◌, map, option_map, codes, IfOk};
+ghost use Rattle.std.specs.Prelude.{◌≡◌, map, option_map, IfOk};
 ghost use Rattle.line_lexer.specs.Tokens.{seen};
-ghost use Rattle.line_lexer.specs.Grammar.{name as one_name};
-ghost use Rattle.mapping_language.specs.Grammar.{separated, kind_of, kind, with_text, table_line, column_line, key_line, source_line};
+ghost use Rattle.mapping_language.specs.Grammar.{with_text, table_line, column_line, key_line, source_line};
 ghost use Rattle.mapping_language.specs.Shown.{line_shown};
 
 use crate::written::SourceLine;
 use line_lexer::Token;
-use line_lexer::grammar::{any_quoted, any_word, ended, expect, name};
+use line_lexer::grammar::{any_quoted, ended, expect, name, names};
 use std::alloc::{AllocError, Global};
-use vocabulary::ValueKind;
+use uml_model::kind;
 
 /// The tokens that are still to be read.
 #[derive(Drop)]
 pub(crate) struct Left<'t, 'a> {
     pub(crate) tokens: &'t [Token<'a>],
-}
-
-fn names<'t, 'a>(
-    alloc: Global,
-    tokens: &'t [Token<'a>],
-) -> Result<Option<(Vec<&'a str>, &'t [Token<'a>])>, AllocError>
-    ensures { IfOk result (λ found. option_map (λ f. (map (λ c. c.now) f.0.items, map seen f.1.now)) found ≡ separated (codes ",") one_name (map seen tokens.now)) }
-{
-    let mut found = Vec::new(alloc);
-    let mut left = Left { tokens };
-    for _i in 0..tokens.len() {
-        let Some((next, behind)) = name(left.tokens) else {
-            return Ok(None);
-        };
-        found.push(next)?;
-        let Some(rest) = expect(",", behind) else {
-            return Ok(Some((found, behind)));
-        };
-        left.tokens = rest;
-    }
-    Ok(None)
-}
-
-fn kind_of(word: &str) -> Option<ValueKind>
-    ensures { result ≡ kind_of word.now }
-{
-    if word == "text" {
-        return Some(ValueKind::Text);
-    }
-    if word == "int" {
-        return Some(ValueKind::Int);
-    }
-    if word == "bool" {
-        return Some(ValueKind::Bool);
-    }
-    if word == "time" {
-        return Some(ValueKind::Time);
-    }
-    None
-}
-
-fn kind<'t, 'a>(tokens: &'t [Token<'a>]) -> Option<(ValueKind, &'t [Token<'a>])>
-    ensures { option_map (λ found. (found.0, map seen found.1.now)) result ≡ kind (map seen tokens.now) }
-{
-    let (word, rest) = any_word(tokens)?;
-    let found = kind_of(word)?;
-    Some((found, rest))
 }
 
 // Nothing more, or the word, a quoted text, and nothing more.

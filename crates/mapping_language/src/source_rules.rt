@@ -1,5 +1,5 @@
 //! The rules of source lines, one function for each kind of fault.
-ghost use Rattle.std.specs.Prelude.{◌≡◌, ◌+◌, not, map, nat_lt, option_map, pos};
+ghost use Rattle.std.specs.Prelude.{◌≡◌, ◌+◌, not, nat_lt, option_map};
 ghost use Rattle.std.specs.List.{list_any};
 ghost use Rattle.std.specs.Option.{IfSome};
 ghost use Rattle.jiff_core.specs.Calendar.{IsWithin};
@@ -9,10 +9,10 @@ ghost use Rattle.mapping_language.specs.Tables.{has_column, header_or, offset_or
 ghost use Rattle.mapping_language.specs.Shown.{line_shown};
 
 use crate::Sources;
-use crate::tables::{column_number, has_header, has_twice, table_named, table_number};
+use crate::tables::{column_number, has_header, table_named, table_number};
 use crate::written::SourceLine;
 use civil_values::read_offset;
-use line_lexer::{Counted, LineFault};
+use line_lexer::{Counted, LineFault, has_twice};
 use source_tables::TableDecl;
 
 /// The offset of a table's times: its own, else that of UTC.
@@ -49,7 +49,7 @@ fn lacks_column(table: &TableDecl, columns: &[&str]) -> bool
     columns.iter().any(|c| column_number(table, c).is_none())
 }
 
-#[tactic(auto, using(crate::proofs::Lists::any_of_map))]
+#[tactic(auto, using(line_lexer::proofs::Twice::any_of_map))]
 fn unknown(sources: &Sources, line: &SourceLine<'_>) -> bool
     ensures { result ≡ unknown sources.now (line_shown line.now) }
 {

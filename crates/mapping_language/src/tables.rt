@@ -1,9 +1,6 @@
-//! Tables and columns by their names, and texts that stand twice.
-ghost use Rattle.std.specs.Prelude.{◌≡◌, map, position};
-ghost use Rattle.std.specs.List.{list_any};
+//! Tables and columns by their names.
+ghost use Rattle.std.specs.Prelude.{◌≡◌, position};
 ghost use Rattle.std.specs.Option.{option_copied};
-ghost use Rattle.std.specs.Str.{bytes_eq};
-ghost use Rattle.line_lexer.specs.Judging.{has_twice};
 ghost use Rattle.mapping_language.specs.Tables.{table_number, table_named, column_number, column_named, has_header};
 
 use crate::Sources;
@@ -52,30 +49,4 @@ pub(crate) fn has_header(table: &TableDecl, text: &str) -> bool
         .items()
         .iter()
         .any(|c| c.header.text() == text)
-}
-
-fn is_among(text: &str, texts: &[&str]) -> bool
-    ensures { result ≡ list_any (λ t. bytes_eq text.now t.now) texts.now }
-{
-    texts.iter().any(|other| text == *other)
-}
-
-/// The texts that are still to be compared with those behind them.
-#[derive(Drop)]
-struct Left<'t, 'a> {
-    texts: &'t [&'a str],
-}
-
-/// Whether a text stands twice.
-pub(crate) fn has_twice(texts: &[&str]) -> bool
-    ensures { result ≡ has_twice (map (λ t. t.now) texts.now) }
-{
-    let mut left = Left { texts };
-    while let [text, behind @ ..] = left.texts {
-        if is_among(text, behind) {
-            return true;
-        }
-        left.texts = behind;
-    }
-    false
 }

@@ -131,12 +131,16 @@ answer_walked files p name project tables q a found =
     (onward (query_step project name) _ q _ (rw found refl)
     (onward (sources_step files project) _ tables _ (sources_walked files p project tables a) refl)))
 
+-- a project is read, whatever its tables are
+pub project_alone : (files : Files) (p : List ℕ) (project : Project) → IsProjectOf files p project → (project_step files p).end ≡ Ok project
+project_alone files p project a = onward (file_step files p) _ a.bytes _ (file_held files p a.bytes a.held) (rw a.read refl)
+
 rewrite_walked : (files : Files) (p name : List ℕ) (project : Project) (q : Query) → IsProjectOf files p project → query_named project.noted.notes name ≡ Some q
     → (walk (codes "rewrite" ∷ p ∷ name ∷ []) files).end ≡ Ok (Rewriting project name q)
 unfolding walk rewrite_step
 rewrite_walked files p name project q a found =
     onward (command_step (codes "rewrite" ∷ p ∷ name ∷ [])) (job_step files) (Rewrite p name) _ refl
-    (onward (project_step files p) _ project _ (onward (file_step files p) _ a.bytes _ (file_held files p a.bytes a.held) (rw a.read refl))
+    (onward (project_step files p) _ project _ (project_alone files p project a)
     (onward (query_step project name) _ q _ (rw found refl) refl))
 
 -- neither ends with a failed call
@@ -150,7 +154,7 @@ rewrite_whole project name q e r (too_wide wide is) same = ends_well r status.Li
 
 module _ (out out' report report' : Option (List ℕ)) (r : Status) (e : Ending) (same : r ≡ e.status) (written : Appends out out' e.out) (reported : Appends report report' e.report) where
   -- a query is too wide
-  width_told : e ≡ wide_end → TellsWidth out out' report report' r
+  pub width_told : e ≡ wide_end → TellsWidth out out' report report' r
   width_told is = record {
     limit = same ∙ ap (λ e. e.status) is;
     unwritten = Keeps-of out out' (subst (Appends out out') (ap (λ e. e.out) is) written);

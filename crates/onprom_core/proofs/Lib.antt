@@ -12,8 +12,10 @@ mod Bounded
 mod WalksBack
 mod Headlines
 mod Judging
+mod Limits
 mod Numbering
 mod Asking
+mod ModelRuns
 mod MadeWalk
 mod MadeFiles
 mod QuerySamples

@@ -17,7 +17,7 @@ use Rattle.onprom_core.specs.Headline.{Makes, Summarises, WritesAlone, WritesSum
 use Rattle.onprom_core.specs.Jobs.{Ending, EndsExtraction, EndsMade, EndsMaking, IsEnd, IsSummary, extracted, too_wide, contradicted}
 use Rattle.onprom_core.specs.Meaning.{IsConsistentProject, IsWide}
 use Rattle.onprom_core.specs.Outputs.{Works, ended}
-use Rattle.onprom_core.specs.Walk.{Files, Job, Extracting, Checking, Verifying, Answering, Rewriting, Making, command_step, extract_step, job_step, walk}
+use Rattle.onprom_core.specs.Walk.{Files, Job, Extracting, Checking, Verifying, Answering, Rewriting, Making, Linting, Containing, command_step, extract_step, job_step, walk}
 use Rattle.onprom_core.proofs.Headlines.{Keeps-of, onward, walked}
 use Rattle.onprom_core.proofs.Numbering.{named}
 use Rattle.onprom_core.proofs.Words.{make_named}
@@ -69,6 +69,8 @@ made_first files e = by (extract_step files (codes "project.txt")).end
     by (Ok (Answering project tables q)) ends = absurd ends
     by (Ok (Rewriting project name q)) ends = absurd ends
     by (Ok (Making n name)) ends = absurd ends
+    by (Ok (Linting project)) ends = absurd ends
+    by (Ok (Containing project first second)) ends = absurd ends
     by (Err stopped) ends = ends
 
 module _ (out out' report report' : Option (List ℕ)) (r : Status) (e : Ending) (same : r ≡ e.status) (written : Appends out out' e.out) (reported : Appends report report' e.report) where

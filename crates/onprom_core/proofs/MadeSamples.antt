@@ -2,6 +2,7 @@
 use Rattle.std.proofs.Common.{◌≡◌, refl, [], ◌∷◌, Bool, false, true, not, is_some, Result, Ok, Err, codes}
 use Rattle.std.specs.Fmt.{digits}
 use Rattle.std.specs.Str.{chars, is_utf8}
+use Rattle.line_lexer.specs.Separated.{at_most}
 use Rattle.line_lexer.specs.Tokens.{tokens_behind, token_front}
 use Rattle.uml_model.specs.Lines as model_lines
 use Rattle.uml_model.specs.Rules as model_rules
@@ -30,5 +31,5 @@ lacks_nothing (Ok project) = not (is_some (lack_of project.noted.notes))
 lacks_nothing (Err fault) = false
 
 whole : lacks_nothing (read_project project_file) ≡ true
-unfolding project_file chars tokens_behind token_front model_lines.model_line model_lines.attr_line model_lines.assoc_line model_lines.multiplicity_at model_rules.is_functional model_rules.broken map_grammar.source_line map_grammar.table_line map_grammar.column_line map_grammar.key_line map_tables.broken map_tables.grown map_grammar.at_most map_grammar.map_line map_grammar.target map_mappings.holes map_mappings.broken map_mappings.grown template_of is_hole_text note_grammar.at_most note_grammar.atom note_grammar.of_any note_grammar.of_one note_grammar.pair note_grammar.of_two note_grammar.key_front note_grammar.key_line note_grammar.annotation_line note_lines.broken note_lines.grown open_lines read_lines read_project is_utf8 lib.Utf8.encode
+unfolding project_file chars tokens_behind token_front model_lines.model_line model_lines.attr_line model_lines.assoc_line model_lines.multiplicity_at model_rules.is_functional model_rules.broken map_grammar.source_line map_grammar.table_line map_grammar.column_line map_grammar.key_line map_tables.broken map_tables.grown at_most map_grammar.map_line map_grammar.target map_mappings.holes map_mappings.broken map_mappings.grown template_of is_hole_text note_grammar.atom note_grammar.of_any note_grammar.of_one note_grammar.pair note_grammar.of_two note_grammar.key_front note_grammar.key_line note_grammar.annotation_line note_lines.broken note_lines.grown open_lines read_lines read_project is_utf8 lib.Utf8.encode
 whole = refl

@@ -1,6 +1,7 @@
 -- No file is absent in the walk over the made project.
 use Rattle.std.proofs.Common.{◌≡◌, ◌≢◌, refl, sym, ◌∙◌, ap, subst, ℕ, ◌+◌, Bool, true, false, List, [], ◌∷◌, Option, Some, None, Result, Ok, Err, codes, length, nat_lt, is_some, if◌then◌else◌, ◌&&◌}
 use Rattle.outside.specs.Files.{bytes_of}
+use Rattle.line_lexer.specs.Separated.{at_most}
 use Rattle.line_lexer.specs.Faults.{limit_of, name_of}
 use Rattle.line_lexer.specs.Tokens.{tokens_behind, token_front}
 use Rattle.line_lexer.specs.declared.fault.Counted.TheVariants.{File, TablesTogether}
@@ -148,7 +149,7 @@ extract_present files p text held tables =
 
 -- the made project holds the files of its tables
 made_tables : (n : ℕ) → holds_tables (made_files n) (read_project project_file) ≡ true
-unfolding project_file chars tokens_behind token_front model_lines.model_line model_lines.attr_line model_lines.assoc_line model_lines.multiplicity_at model_rules.is_functional model_rules.broken map_grammar.source_line map_grammar.table_line map_grammar.column_line map_grammar.key_line map_tables.broken map_tables.grown map_grammar.at_most map_grammar.map_line map_grammar.target map_mappings.holes map_mappings.broken map_mappings.grown template_of is_hole_text note_grammar.at_most note_grammar.atom note_grammar.of_any note_grammar.of_one note_grammar.pair note_grammar.of_two note_grammar.key_front note_grammar.key_line note_grammar.annotation_line note_lines.broken note_lines.grown open_lines read_lines read_project is_utf8 lib.Utf8.encode
+unfolding project_file chars tokens_behind token_front model_lines.model_line model_lines.attr_line model_lines.assoc_line model_lines.multiplicity_at model_rules.is_functional model_rules.broken map_grammar.source_line map_grammar.table_line map_grammar.column_line map_grammar.key_line map_tables.broken map_tables.grown at_most map_grammar.map_line map_grammar.target map_mappings.holes map_mappings.broken map_mappings.grown template_of is_hole_text note_grammar.atom note_grammar.of_any note_grammar.of_one note_grammar.pair note_grammar.of_two note_grammar.key_front note_grammar.key_line note_grammar.annotation_line note_lines.broken note_lines.grown open_lines read_lines read_project is_utf8 lib.Utf8.encode
 made_tables n = refl
 
 pub made_present : (n : ℕ) → IsPresent (extract_step (made_files n) (codes "project.txt")).end

@@ -1,6 +1,7 @@
 -- First ends of the walks of `answer` and of `rewrite`, computed.
 use Rattle.std.proofs.Common.{◌≡◌, refl, ℕ, List, [], ◌∷◌, Option, Some, None, Result, Ok, Err, codes}
 use Rattle.std.specs.Str.{chars, is_utf8}
+use Rattle.line_lexer.specs.Separated.{at_most}
 use Rattle.line_lexer.specs.Tokens.{tokens_behind, token_front}
 use Rattle.uml_model.specs.Lines as model_lines
 use Rattle.uml_model.specs.Rules as model_rules
@@ -31,19 +32,19 @@ rewrite name = stopped_with (walk (codes "rewrite" ∷ codes "p" ∷ name ∷ []
 
 -- the query is found before the tables are read
 unknown : answer (codes "none") ≡ Some (record { status = status.Refused; line = codes "refused: query none: Unknown\n" })
-unfolding walk answer_step query_refused chars tokens_behind token_front map_grammar.source_line map_grammar.table_line map_grammar.column_line map_tables.broken map_tables.grown map_grammar.at_most model_lines.model_line model_rules.broken note_grammar.at_most note_grammar.atom note_grammar.of_any note_grammar.of_one note_grammar.annotation_line note_lines.broken note_lines.grown open_lines read_lines read_project is_utf8 lib.Utf8.encode
+unfolding walk answer_step query_refused chars tokens_behind token_front map_grammar.source_line map_grammar.table_line map_grammar.column_line map_tables.broken map_tables.grown at_most model_lines.model_line model_rules.broken note_grammar.atom note_grammar.of_any note_grammar.of_one note_grammar.annotation_line note_lines.broken note_lines.grown open_lines read_lines read_project is_utf8 lib.Utf8.encode
 unknown = refl
 
 -- `case` names no query where there are no cases
 no_case : answer (codes "case") ≡ Some (record { status = status.Refused; line = codes "refused: query case: Unknown\n" })
-unfolding walk answer_step query_refused chars tokens_behind token_front map_grammar.source_line map_grammar.table_line map_grammar.column_line map_tables.broken map_tables.grown map_grammar.at_most model_lines.model_line model_rules.broken note_grammar.at_most note_grammar.atom note_grammar.of_any note_grammar.of_one note_grammar.annotation_line note_lines.broken note_lines.grown open_lines read_lines read_project is_utf8 lib.Utf8.encode
+unfolding walk answer_step query_refused chars tokens_behind token_front map_grammar.source_line map_grammar.table_line map_grammar.column_line map_tables.broken map_tables.grown at_most model_lines.model_line model_rules.broken note_grammar.atom note_grammar.of_any note_grammar.of_one note_grammar.annotation_line note_lines.broken note_lines.grown open_lines read_lines read_project is_utf8 lib.Utf8.encode
 no_case = refl
 
 no_table : answer (codes "q") ≡ Some (record { status = status.Absent; line = codes "absent: t.csv\n" })
-unfolding walk answer_step one_table tables_step chars tokens_behind token_front map_grammar.source_line map_grammar.table_line map_grammar.column_line map_tables.broken map_tables.grown map_grammar.at_most model_lines.model_line model_rules.broken note_grammar.at_most note_grammar.atom note_grammar.of_any note_grammar.of_one note_grammar.annotation_line note_lines.broken note_lines.grown open_lines read_lines read_project is_utf8 lib.Utf8.encode
+unfolding walk answer_step one_table tables_step chars tokens_behind token_front map_grammar.source_line map_grammar.table_line map_grammar.column_line map_tables.broken map_tables.grown at_most model_lines.model_line model_rules.broken note_grammar.atom note_grammar.of_any note_grammar.of_one note_grammar.annotation_line note_lines.broken note_lines.grown open_lines read_lines read_project is_utf8 lib.Utf8.encode
 no_table = refl
 
 -- `rewrite` asks for no table
 rewritten : rewrite (codes "q") ≡ None
-unfolding walk rewrite_step chars tokens_behind token_front map_grammar.source_line map_grammar.table_line map_grammar.column_line map_tables.broken map_tables.grown map_grammar.at_most model_lines.model_line model_rules.broken note_grammar.at_most note_grammar.atom note_grammar.of_any note_grammar.of_one note_grammar.annotation_line note_lines.broken note_lines.grown open_lines read_lines read_project is_utf8 lib.Utf8.encode
+unfolding walk rewrite_step chars tokens_behind token_front map_grammar.source_line map_grammar.table_line map_grammar.column_line map_tables.broken map_tables.grown at_most model_lines.model_line model_rules.broken note_grammar.atom note_grammar.of_any note_grammar.of_one note_grammar.annotation_line note_lines.broken note_lines.grown open_lines read_lines read_project is_utf8 lib.Utf8.encode
 rewritten = refl

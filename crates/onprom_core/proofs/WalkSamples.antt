@@ -2,6 +2,7 @@
 use Rattle.std.proofs.Common.{◌≡◌, refl, ℕ, List, [], ◌∷◌, Option, Some, None, Result, Ok, Err, codes, map, arith}
 use Rattle.std.specs.Fmt.{digits}
 use Rattle.std.specs.Str.{chars, is_utf8}
+use Rattle.line_lexer.specs.Separated.{at_most}
 use Rattle.line_lexer.specs.Tokens.{tokens_behind, token_front}
 use Rattle.uml_model.specs.Lines as model_lines
 use Rattle.uml_model.specs.Rules as model_rules
@@ -15,7 +16,7 @@ use Rattle.project_language.specs.declared.fault.ProjectFault.{ProjectFault}
 use Rattle.project_language.specs.declared.project.Project.{Project}
 use Rattle.onprom_core.specs.declared.status.Status.TheVariants as status
 use Rattle.onprom_core.specs.declared.halt.Stopped.{Stopped}
-use Rattle.onprom_core.specs.Commands.{Extract, Check, Verify, Answer, Rewrite, Make, command_of}
+use Rattle.onprom_core.specs.Commands.{Extract, Check, Verify, Answer, Rewrite, Make, Lint, Contained, command_of}
 use Rattle.onprom_core.specs.Headline.{IsAcceptedProject}
 use Rattle.onprom_core.specs.Lines.{line_refused, usage_line}
 use Rattle.onprom_core.specs.Walk.{Files, Job, check_step, extract_step, one_table, tables_step, verify_step, walk}
@@ -30,6 +31,10 @@ no_commands : map command_of ([] ∷ (codes "extract" ∷ []) ∷ (codes "extrac
     ≡ None ∷ None ∷ None ∷ None ∷ None ∷ None ∷ None ∷ None ∷ []
 unfolding digits
 no_commands = refl
+
+more_commands : map command_of ((codes "lint" ∷ codes "p" ∷ []) ∷ (codes "lint" ∷ codes "p" ∷ codes "q" ∷ []) ∷ (codes "contained" ∷ codes "p" ∷ codes "q" ∷ codes "r" ∷ []) ∷ (codes "contained" ∷ codes "p" ∷ codes "q" ∷ []) ∷ [])
+    ≡ Some (Lint (codes "p")) ∷ None ∷ Some (Contained (codes "p") (codes "q") (codes "r")) ∷ None ∷ []
+more_commands = refl
 
 -- what a walk stops with, none where it comes to its job
 abbrev stopped_with : Result Job Stopped → Option Stopped
@@ -63,12 +68,12 @@ lacking = refl
 
 -- a table is begun behind the project, and only then
 table_begun : (walk (codes "extract" ∷ codes "p" ∷ []) (held (codes "onprom 1\ntable t \"t.csv\"\ncolumn t a text\nclass A\ncase c where A(c)\n"))).begun ≡ codes "p" ∷ codes "t.csv" ∷ []
-unfolding walk extract_step one_table tables_step chars tokens_behind token_front map_grammar.source_line map_grammar.table_line map_grammar.column_line map_tables.broken map_tables.grown map_grammar.at_most model_lines.model_line model_rules.broken note_grammar.at_most note_grammar.atom note_grammar.of_any note_grammar.of_one note_grammar.annotation_line note_lines.broken note_lines.grown open_lines read_lines read_project is_utf8 lib.Utf8.encode
+unfolding walk extract_step one_table tables_step chars tokens_behind token_front map_grammar.source_line map_grammar.table_line map_grammar.column_line map_tables.broken map_tables.grown at_most model_lines.model_line model_rules.broken note_grammar.atom note_grammar.of_any note_grammar.of_one note_grammar.annotation_line note_lines.broken note_lines.grown open_lines read_lines read_project is_utf8 lib.Utf8.encode
 table_begun = refl
 
 -- where all is read, the walk comes to its job
 done : extract (codes "p") (held (codes "onprom 1\nclass A\ncase c where A(c)\n")) ≡ None
-unfolding walk extract_step tables_step chars tokens_behind token_front model_lines.model_line model_rules.broken note_grammar.at_most note_grammar.atom note_grammar.of_any note_grammar.of_one note_grammar.annotation_line note_lines.broken note_lines.grown open_lines read_lines read_project is_utf8 lib.Utf8.encode
+unfolding walk extract_step tables_step chars tokens_behind token_front model_lines.model_line model_rules.broken at_most note_grammar.atom note_grammar.of_any note_grammar.of_one note_grammar.annotation_line note_lines.broken note_lines.grown open_lines read_lines read_project is_utf8 lib.Utf8.encode
 done = refl
 
 -- `check` asks for no annotations, and a constraint is read as any other line
@@ -101,5 +106,5 @@ small = codes "onprom 1\nclass A\ncase c where A(c)\n"
 
 -- a project that is accepted: it is held and read, it has no tables, and its annotations lack nothing
 accepted : IsAcceptedProject (held small) (codes "p") (project_or_none (read_project small)) []
-unfolding chars tokens_behind token_front model_lines.model_line model_rules.broken note_grammar.at_most note_grammar.atom note_grammar.of_any note_grammar.of_one note_grammar.annotation_line note_lines.broken note_lines.grown open_lines read_lines read_project is_utf8 lib.Utf8.encode
+unfolding chars tokens_behind token_front model_lines.model_line model_rules.broken at_most note_grammar.atom note_grammar.of_any note_grammar.of_one note_grammar.annotation_line note_lines.broken note_lines.grown open_lines read_lines read_project is_utf8 lib.Utf8.encode
 accepted = record { read = record { bytes = small; held = (refl, omega arith); read = refl; loaded = tt }; complete = refl }

@@ -3,7 +3,7 @@ use Rattle.std.proofs.Common.{◌≡◌, refl, sym, ◌∙◌, List, ℕ, [], �
 use Rattle.std.specs.Str.{bytes_eq}
 use Rattle.std.proofs.lemmas.Slice.Eq.{bytes_eq-Decides}
 use Rattle.onprom_core.specs.declared.status.Status.TheVariants as status
-use Rattle.onprom_core.specs.Commands.{Command, Extract, Check, Verify, Answer, Rewrite, Make, count_named, docs_named, is_answer, is_check, is_count, is_extract, is_made, is_make, is_rewrite, is_verify, value_behind}
+use Rattle.onprom_core.specs.Commands.{Command, Extract, Check, Verify, Answer, Rewrite, Make, Lint, Contained, count_named, docs_named, is_answer, is_check, is_contained, is_count, is_extract, is_lint, is_made, is_make, is_rewrite, is_verify, value_behind}
 use Rattle.onprom_core.specs.Lines.{usage_line}
 use Rattle.onprom_core.specs.Walk.{Files, IsNoCommand, command_step, named_step, stop_usage, walk}
 
@@ -21,6 +21,20 @@ check_named [] p other is named = cc
 check_named (a ∷ []) p other is named = cc
 check_named (a ∷ q ∷ []) p other is named = rw (other, is, first_is q p named) refl
 check_named (a ∷ q ∷ d ∷ rest) p other is named = cc
+
+pub lint_named : (words : List (List ℕ)) (p : List ℕ) → is_extract words ≡ false → is_check words ≡ false → is_lint words ≡ true → slice_get words 1 ≡ Some p → (command_step words).end ≡ Ok (Lint p)
+lint_named [] p e c is named = cc
+lint_named (a ∷ []) p e c is named = cc
+lint_named (a ∷ q ∷ []) p e c is named = rw (e, c, is, first_is q p named) refl
+lint_named (a ∷ q ∷ d ∷ rest) p e c is named = cc
+
+pub contained_named : (words : List (List ℕ)) (p q r : List ℕ) → is_contained words ≡ true → slice_get words 1 ≡ Some p → slice_get words 2 ≡ Some q → slice_get words 3 ≡ Some r → (command_step words).end ≡ Ok (Contained p q r)
+contained_named [] p q r is first second third = cc
+contained_named (a ∷ []) p q r is first second third = cc
+contained_named (a ∷ b ∷ []) p q r is first second third = cc
+contained_named (a ∷ b ∷ c ∷ []) p q r is first second third = cc
+contained_named (a ∷ b ∷ c ∷ d ∷ []) p q r is first second third = rw (is, first_is b p first, first_is c q second, first_is d r third) refl
+contained_named (a ∷ b ∷ c ∷ d ∷ e ∷ rest) p q r is first second third = cc
 
 pub verify_named : (words : List (List ℕ)) (p d : List ℕ) → is_verify words ≡ true → slice_get words 1 ≡ Some p → slice_get words 2 ≡ Some d → (command_step words).end ≡ Ok (Verify p d)
 verify_named [] p d is named second = cc
@@ -69,13 +83,25 @@ make_fails true false true n f e = refl
 make_fails true false false n f e = refl
 make_fails false file number n f e = refl
 
-pub none_named : (words : List (List ℕ)) → is_extract words ≡ false → is_check words ≡ false → is_verify words ≡ false → is_answer words ≡ false → is_rewrite words ≡ false → docs_named words ≡ None → command_step words ≡ stop_usage
-none_named [] e c v a r m = refl
-none_named (w ∷ []) e c v a r m = refl
-none_named (w ∷ p ∷ []) e c v a r m = rw (e, c) refl
-none_named (w ∷ n ∷ f ∷ []) e c v a r m =
-    rw (v, a, r) (make_fails (bytes_eq w (codes "make")) (is_made f) (is_count n) (value_behind 0 n) f m)
-none_named (w ∷ p ∷ q ∷ d ∷ rest) e c v a r m = refl
+-- none of the tests is met
+pub record NoneNamed (words : List (List ℕ)) : Type 0 where
+  pub extract : is_extract words ≡ false
+  pub check : is_check words ≡ false
+  pub verify : is_verify words ≡ false
+  pub answer : is_answer words ≡ false
+  pub rewrite : is_rewrite words ≡ false
+  pub make : docs_named words ≡ None
+  pub lint : is_lint words ≡ false
+  pub contained : is_contained words ≡ false
+
+pub none_named : (words : List (List ℕ)) → NoneNamed words → command_step words ≡ stop_usage
+none_named [] n = refl
+none_named (w ∷ []) n = refl
+none_named (w ∷ p ∷ []) n = rw (n.extract, n.check, n.lint) refl
+none_named (w ∷ d ∷ f ∷ []) n =
+    rw (n.verify, n.answer, n.rewrite) (make_fails (bytes_eq w (codes "make")) (is_made f) (is_count d) (value_behind 0 d) f n.make)
+none_named (w ∷ p ∷ q ∷ r ∷ []) n = rw n.contained refl
+none_named (w ∷ p ∷ q ∷ r ∷ d ∷ rest) n = refl
 
 -- words of no command
 pub no_command : (words : List (List ℕ)) → command_step words ≡ stop_usage → IsNoCommand words

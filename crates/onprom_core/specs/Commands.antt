@@ -3,7 +3,7 @@ use Rattle.std.specs.Prelude.{ℕ, ◌+◌, ◌*◌, ◌-◌, ◌&&◌, nat_lt, 
 use Rattle.std.specs.List.{list_any}
 use Rattle.std.specs.Str.{bytes_eq}
 
--- a command with its file names, the name of its query, or the number of documents and the name of a made file
+-- a command with its file names, the names of its queries, or the number of documents and the name of a made file
 pub data Command : Type 0 where
   Extract : List ℕ → Command
   Check : List ℕ → Command
@@ -11,6 +11,8 @@ pub data Command : Type 0 where
   Answer : List ℕ → List ℕ → Command
   Rewrite : List ℕ → List ℕ → Command
   Make : ℕ → List ℕ → Command
+  Lint : List ℕ → Command
+  Contained : List ℕ → List ℕ → List ℕ → Command
 
 -- the number that a text writes, where it is one in decimal
 abbrev pub value_behind : ℕ → List ℕ → ℕ
@@ -28,7 +30,8 @@ is_made name = list_any (bytes_eq name) (codes "project.txt" ∷ codes "doc.csv"
 abbrev pub one_file : List ℕ → List ℕ → Option Command
 one_file word p =
     if bytes_eq word (codes "extract") then Some (Extract p)
-    else (if bytes_eq word (codes "check") then Some (Check p) else None)
+    else (if bytes_eq word (codes "check") then Some (Check p)
+    else (if bytes_eq word (codes "lint") then Some (Lint p) else None))
 
 abbrev pub file_and_name : List ℕ → List ℕ → List ℕ → Option Command
 file_and_name word p q =
@@ -37,10 +40,14 @@ file_and_name word p q =
     else (if bytes_eq word (codes "rewrite") then Some (Rewrite p q)
     else (if bytes_eq word (codes "make") && is_count p && is_made q then Some (Make (value_behind 0 p) q) else None)))
 
+abbrev pub file_and_names : List ℕ → List ℕ → List ℕ → List ℕ → Option Command
+file_and_names word p q r = if bytes_eq word (codes "contained") then Some (Contained p q r) else None
+
 -- the command that words name, if they match a line of the table
 abbrev pub command_of : List (List ℕ) → Option Command
 command_of (word ∷ p ∷ []) = one_file word p
 command_of (word ∷ p ∷ q ∷ []) = file_and_name word p q
+command_of (word ∷ p ∷ q ∷ r ∷ []) = file_and_names word p q r
 command_of words = None
 
 -- the words are `extract` and one more
@@ -67,6 +74,16 @@ is_answer words = false
 abbrev pub is_rewrite : List (List ℕ) → Bool
 is_rewrite (word ∷ p ∷ q ∷ []) = bytes_eq word (codes "rewrite")
 is_rewrite words = false
+
+-- the words are `lint` and one more
+abbrev pub is_lint : List (List ℕ) → Bool
+is_lint (word ∷ p ∷ []) = bytes_eq word (codes "lint")
+is_lint words = false
+
+-- the words are `contained` and three more
+abbrev pub is_contained : List (List ℕ) → Bool
+is_contained (word ∷ p ∷ q ∷ r ∷ []) = bytes_eq word (codes "contained")
+is_contained words = false
 
 -- the number that a text names for `make`, where it names one
 abbrev pub count_named : List ℕ → Option ℕ

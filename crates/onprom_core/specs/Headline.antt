@@ -1,5 +1,5 @@
--- The sentences of the six commands, over the definitions of a project that is read, and of one that is accepted.
-use Rattle.std.specs.Prelude.{◌≡◌, ◌≢◌, ℕ, ◌+◌, ◌≤◌, true, List, [], ◌∷◌, ◌++◌, codes, decimal, length, Option, Some, Ok}
+-- The sentences of the commands, over the definitions of a project that is read, and of one that is accepted.
+use Rattle.std.specs.Prelude.{◌≡◌, ◌≢◌, ◌⊎◌, ℕ, ◌+◌, ◌≤◌, true, List, [], ◌∷◌, ◌++◌, codes, decimal, length, Option, None, Some, Ok}
 use Rattle.std.specs.Str.{is_utf8}
 use Rattle.std.specs.Io.KnownBytes.{Appends, Keeps}
 use Rattle.vocabulary.specs.Lists.{IsListOf}
@@ -16,7 +16,9 @@ use Rattle.perfect_rewriting.specs.Reach.{Reach}
 use Rattle.query_subsumption.specs.Kept.{NoneMaps}
 use Rattle.query_subsumption.specs.Subsumption.{AreKept}
 use Rattle.answer_text.specs.Answers.{answers_report, answers_text}
+use Rattle.answer_text.specs.Containment.{containment_report, containment_text}
 use Rattle.answer_text.specs.Queries.{queries_report}
+use Rattle.answer_text.specs.Voids.{voids_report, voids_text}
 use Rattle.annotation_language.specs.Complete.{IsComplete}
 use Rattle.annotation_language.specs.Named.{query_named}
 use Rattle.big_project.specs.Files.{file_of, made_files}
@@ -24,6 +26,7 @@ use Rattle.big_project.specs.Summary.{first_line}
 use Rattle.conflict_checker.specs.declared.derivation.Derivation.{Derivation}
 use Rattle.conflict_checker.specs.Derivations.{IsAccepted}
 use Rattle.derivation_text.specs.Reading.{derivations_of}
+use Rattle.model_lint.specs.declared.element.VoidProof.{VoidProof}
 use Rattle.project_language.specs.declared.project.Project.{Project}
 use Rattle.project_language.specs.Project.{read_project}
 use Rattle.onprom_core.specs.declared.status.Status.{Status}
@@ -31,7 +34,7 @@ use Rattle.onprom_core.specs.declared.status.Status.TheVariants as status
 use Rattle.onprom_core.specs.Lines.{limit_line, named_line}
 use Rattle.onprom_core.specs.Delivery.{IsFirstEnd}
 use Rattle.onprom_core.specs.Jobs.{Ending, printed}
-use Rattle.onprom_core.specs.Meaning.{AnswerAs, AreAccepted, AreContradictions, IsConsistentProject, IsExtracted, IsReadBack, IsTooWideToAnswer, IsTooWideToRewrite, IsWide, certain, contradicted_lines, mapping_names, spelled, tbox}
+use Rattle.onprom_core.specs.Meaning.{AnswerAs, AreAccepted, AreContradictions, AreVoids, IsConsistentProject, IsContainedIn, IsCoveredIn, IsExtracted, IsReadBack, IsTooWideToAnswer, IsTooWideToRewrite, IsWide, certain, contradicted_lines, mapping_names, spelled, tbox}
 use Rattle.onprom_core.specs.Walk.{Files}
 
 -- the file is held, and not too long
@@ -218,6 +221,62 @@ Rewrites words files faults faults' written written' reported reported' out out'
     → IsQuiet faults faults' written written' reported reported' → result ≢ status.NoMemory
     → ((IsTooWideToRewrite project q → ⊥) → WritesRewriting project name q out out' report report' result)
     × (IsTooWideToRewrite project q → TellsWidth out out' report report' result)
+
+-- the void classes and then the void links were written by their numbers, each with a proof, and no others; their count was reported
+pub record WritesVoids (project : Project) (out out' report report' : Option (List ℕ)) (result : Status) : Type 0 where
+  pub done : result ≡ status.Done
+  pub proofs : List VoidProof
+  pub voids : AreVoids project proofs
+  pub written : Appends out out' (voids_text project.model.classes project.model.links proofs)
+  pub reported : Appends report report' (voids_report proofs)
+
+-- for every project, whatever its tables are, where no call failed and memory sufficed: what is void in its model
+abbrev pub Lints : List (List ℕ) → Files → (faults faults' written written' reported reported' : ℕ) → (out out' report report' : Option (List ℕ)) → Status → Type 0
+Lints words files faults faults' written written' reported reported' out out' report report' result =
+    (p : List ℕ) (project : Project) → words ≡ codes "lint" ∷ p ∷ [] → IsProjectOf files p project
+    → IsQuiet faults faults' written written' reported reported' → result ≢ status.NoMemory
+    → WritesVoids project out out' report report' result
+
+-- what is done wrote of a project that is read what is void in its model
+abbrev pub LintsSoundly : List (List ℕ) → Files → (out out' report report' : Option (List ℕ)) → Status → Type 0
+LintsSoundly words files out out' report report' result =
+    (p : List ℕ) → words ≡ codes "lint" ∷ p ∷ [] → result ≡ status.Done
+    → (project : Project) × IsProjectOf files p project × WritesVoids project out out' report report' result
+
+-- what was found was written and reported: the number of a printed query, or that there is none
+pub record WritesContainment (number : Option ℕ) (out out' report report' : Option (List ℕ)) (result : Status) : Type 0 where
+  pub done : result ≡ status.Done
+  pub written : Appends out out' (containment_text number)
+  pub reported : Appends report report' (containment_report number)
+
+-- the number was told by which the first query is covered
+abbrev pub TellsPlace : Project → Query → Query → (out out' report report' : Option (List ℕ)) → Status → Type 0
+TellsPlace project first second out out' report report' result = (number : ℕ) × IsCoveredIn project first second number × WritesContainment (Some number) out out' report report' result
+
+-- the two queries can be asked by their names, and their heads have one length
+pub record AreComparable (project : Project) (q r : List ℕ) (first second : Query) : Type 0 where
+  pub one : query_named project.noted.notes q ≡ Some first
+  pub other : query_named project.noted.notes r ≡ Some second
+  pub heads : length first.head ≡ length second.head
+
+-- for every project, whatever its tables are, and all two queries that are comparable, where no call failed and memory sufficed: whether
+-- over every known list of facts the certain answers of the first are certain answers of the second; the limit, where the second has
+-- too many rewritings
+abbrev pub Compares : List (List ℕ) → Files → (faults faults' written written' reported reported' : ℕ) → (out out' report report' : Option (List ℕ)) → Status → Type 0
+Compares words files faults faults' written written' reported reported' out out' report report' result =
+    (p q r : List ℕ) (project : Project) (first second : Query) → words ≡ codes "contained" ∷ p ∷ q ∷ r ∷ [] → IsProjectOf files p project → AreComparable project q r first second
+    → IsQuiet faults faults' written written' reported reported' → result ≢ status.NoMemory
+    → ((IsTooWideToRewrite project second → ⊥) → IsContainedIn project first second → TellsPlace project first second out out' report report' result)
+    × ((IsTooWideToRewrite project second → ⊥) → (IsContainedIn project first second → ⊥) → WritesContainment None out out' report report' result)
+    × (IsTooWideToRewrite project second → TellsWidth out out' report report' result)
+
+-- what is done told of two comparable queries whether the first is contained in the second
+abbrev pub ComparesSoundly : List (List ℕ) → Files → (out out' report report' : Option (List ℕ)) → Status → Type 0
+ComparesSoundly words files out out' report report' result =
+    (p q r : List ℕ) → words ≡ codes "contained" ∷ p ∷ q ∷ r ∷ [] → result ≡ status.Done
+    → (project : Project) × (first : Query) × (second : Query) × IsProjectOf files p project × AreComparable project q r first second
+    × ((IsContainedIn project first second × TellsPlace project first second out out' report report' result)
+    ⊎ ((IsContainedIn project first second → ⊥) × WritesContainment None out out' report report' result))
 
 -- the text was written, and nothing was reported
 pub record WritesAlone (text : List ℕ) (out out' report report' : Option (List ℕ)) (result : Status) : Type 0 where

@@ -14,15 +14,18 @@ use Rattle.conflict_checker.specs.declared.derivation.Derivation.{Derivation}
 use Rattle.conflict_checker.specs.Derivations.{IsAccepted}
 use Rattle.answer_text.specs.Answers.{AreAnswers}
 use Rattle.answer_text.specs.Queries.{queries_report, queries_text}
+use Rattle.answer_text.specs.Containment.{containment_report, containment_text}
+use Rattle.answer_text.specs.Voids.{voids_report, voids_text}
 use Rattle.big_project.specs.Files.{file_of, made_files}
 use Rattle.big_project.specs.Summary.{first_line}
+use Rattle.model_lint.specs.declared.element.VoidProof.{VoidProof}
 use Rattle.project_language.specs.declared.project.Project.{Project}
 use Rattle.onprom_core.specs.declared.status.Status.{Status}
 use Rattle.onprom_core.specs.declared.status.Status.TheVariants as status
 use Rattle.onprom_core.specs.declared.halt.Stopped.{Stopped}
 use Rattle.onprom_core.specs.Lines.{limit_line, named_line}
-use Rattle.onprom_core.specs.Meaning.{AnswerAs, AreAccepted, AreContradictions, IsConsistentProject, IsExtracted, IsReadBack, IsTooWideToAnswer, IsTooWideToRewrite, IsWide, certain, contradicted_lines, spelled, tbox}
-use Rattle.onprom_core.specs.Walk.{Job, Extracting, Checking, Verifying, Answering, Rewriting, Making, extract_step}
+use Rattle.onprom_core.specs.Meaning.{AnswerAs, AreAccepted, AreContradictions, AreVoids, IsConsistentProject, IsContainedIn, IsCoveredIn, IsExtracted, IsReadBack, IsTooWideToAnswer, IsTooWideToRewrite, IsWide, certain, contradicted_lines, spelled, tbox}
+use Rattle.onprom_core.specs.Walk.{Job, Extracting, Checking, Verifying, Answering, Rewriting, Making, Linting, Containing, extract_step}
 
 -- a status with what is written for it
 pub record Ending : Type 0 where
@@ -90,6 +93,24 @@ pub data EndsRewriting (project : Project) (name : List ℕ) (q : Query) (e : En
       → e ≡ record { status = status.Done; out = printed project name kept; report = queries_report kept } → EndsRewriting project name q e
   too_wide : IsTooWideToRewrite project q → e ≡ wide_end → EndsRewriting project name q e
 
+-- the void classes and links are written, each with its proof, and their count is reported
+abbrev pub voids_end : Project → List VoidProof → Ending
+voids_end project proofs = record { status = status.Done; out = voids_text project.model.classes project.model.links proofs; report = voids_report proofs }
+
+-- `lint`
+pub data EndsLint (project : Project) (e : Ending) : Type 0 where
+  linted : (proofs : List VoidProof) → AreVoids project proofs → e ≡ voids_end project proofs → EndsLint project e
+
+-- the printed query of this number, if there is one, maps into the first
+abbrev pub containment_end : Option ℕ → Ending
+containment_end number = record { status = status.Done; out = containment_text number; report = containment_report number }
+
+-- `contained`
+pub data EndsContainment (project : Project) (first second : Query) (e : Ending) : Type 0 where
+  contained : (IsTooWideToRewrite project second → ⊥) → IsContainedIn project first second → (number : ℕ) → IsCoveredIn project first second number → e ≡ containment_end (Some number) → EndsContainment project first second e
+  not_contained : (IsTooWideToRewrite project second → ⊥) → (IsContainedIn project first second → ⊥) → e ≡ containment_end None → EndsContainment project first second e
+  too_wide : IsTooWideToRewrite project second → e ≡ wide_end → EndsContainment project first second e
+
 -- of an extraction that is done, the first line of its report
 abbrev pub IsSummary : Ending → Ending → Type 0
 IsSummary of e = (of.status ≡ status.Done × e ≡ record { status = status.Done; out = first_line of.report; report = [] })
@@ -114,6 +135,8 @@ IsJobEnd (Verifying project tables ds) e = EndsVerification project tables ds e
 IsJobEnd (Answering project tables q) e = EndsAnswering project tables q e
 IsJobEnd (Rewriting project name q) e = EndsRewriting project name q e
 IsJobEnd (Making n name) e = EndsMaking n name (file_of n name) e
+IsJobEnd (Linting project) e = EndsLint project e
+IsJobEnd (Containing project first second) e = EndsContainment project first second e
 
 -- the end of a walk
 abbrev pub IsEnd : Result Job Stopped → Ending → Type 0

@@ -11,7 +11,7 @@ abbrev pub named_line : List ℕ → List ℕ → List ℕ → List ℕ
 named_line front name back = front ++ name ++ back
 
 unfoldable pub usage_line : List ℕ
-usage_line = codes "usage: extract P | check P | verify P D | answer P Q | rewrite P Q | make N F\n"
+usage_line = codes "usage: extract P | check P | verify P D | answer P Q | rewrite P Q | make N F | lint P | contained P Q Q\n"
 
 abbrev pub absent_line : List ℕ → List ℕ
 absent_line file = named_line (codes "absent: ") file (codes "\n")
@@ -29,6 +29,10 @@ line_refused file line kind = codes "refused: " ++ file ++ codes " line " ++ dec
 -- a query that is not there
 unfoldable pub query_refused : List ℕ → List ℕ
 query_refused name = codes "refused: query " ++ name ++ codes ": Unknown\n"
+
+-- a second query whose head is longer or shorter than that of the first
+unfoldable pub width_refused : List ℕ → List ℕ
+width_refused name = codes "refused: query " ++ name ++ codes ": HeadWidth\n"
 
 -- a row of a table, of which row 0 is the header
 unfoldable pub row_refused : List ℕ → ℕ → List ℕ → List ℕ

@@ -2,7 +2,7 @@
 use Rattle.std.specs.Prelude.{◌≡◌, ◌↔◌, ℕ, true, List, length, map, codes, decimal, Ok}
 use Rattle.std.specs.List.{flat_map}
 use Rattle.std.specs.Str.{is_utf8}
-use Rattle.vocabulary.specs.Lists.{In}
+use Rattle.vocabulary.specs.Lists.{In, IsListOf}
 use Rattle.vocabulary.specs.declared.term.Fact.{Fact}
 use Rattle.vocabulary.specs.declared.term.Term.{Term}
 use Rattle.dllite_axioms.specs.declared.axioms.Tbox.{Tbox}
@@ -13,7 +13,9 @@ use Rattle.source_tables.specs.Tables.{Loaded}
 use Rattle.mapping_facts.specs.Facts.{mapped_facts}
 use Rattle.queries.specs.declared.query.Query.{Query}
 use Rattle.certain_semantics.specs.Certain.{IsCertain}
-use Rattle.perfect_rewriting.specs.Rewriting.{IsTooWide}
+use Rattle.perfect_rewriting.specs.Rewriting.{IsTooWide as HasWideReach}
+use Rattle.fold_rewriting.specs.Listing.{IsTooWide}
+use Rattle.certain_answers.specs.Specified.{Specified}
 use Rattle.query_subsumption.specs.Kept.{HasImage}
 use Rattle.xes_writer.specs.declared.log.Log.{Log}
 use Rattle.xes_writer.specs.Xes.{xes_text}
@@ -27,11 +29,19 @@ use Rattle.consistency_check.specs.Contradictions.{AreContradictions as Contradi
 use Rattle.derivation_text.specs.Reading.{derivations_of}
 use Rattle.derivation_text.specs.Writing.{derivations_text}
 use Rattle.onprom_core.specs.Lines.{named_line}
+use Rattle.model_lint.specs.Containment.{IsContained, IsCovered}
+use Rattle.model_lint.specs.Voids.{IsElement, IsVoid, Shows, elements_of, void_cmp}
+use Rattle.model_lint.specs.declared.element.Void.{Void}
+use Rattle.model_lint.specs.declared.element.VoidProof.{VoidProof}
 use Rattle.project_language.specs.declared.project.Project.{Project}
 
 -- what the model lines mean
 abbrev pub tbox : Project → Tbox
 tbox project = record { axioms = axioms_of project.model.lines; constraints = constraints_of project.model.lines }
+
+-- of what its queries are asked
+abbrev pub specified : Project → Specified
+specified project = record { axioms = (tbox project).axioms; mappings = project.sources.mappings }
 
 -- what the tables say
 abbrev pub facts : Project → List Loaded → List Fact
@@ -45,17 +55,34 @@ certain project tables = IsCertain (tbox project).axioms (facts project tables)
 abbrev pub IsConsistentProject : Project → List Loaded → Type 0
 IsConsistentProject project tables = IsConsistent (tbox project).axioms (tbox project).constraints (facts project tables)
 
--- a query has too many rewritings to be answered
+-- a query has too many folds to be answered
 abbrev pub IsTooWideToAnswer : Project → Query → Type 0
 IsTooWideToAnswer project q = IsTooWide (tbox project).axioms q
 
 -- a query has too many rewritings to be printed
 abbrev pub IsTooWideToRewrite : Project → Query → Type 0
-IsTooWideToRewrite project q = IsTooWide (tbox project).axioms q
+IsTooWideToRewrite project q = HasWideReach (tbox project).axioms q
 
 -- over every known list of facts, the head images of these queries are exactly the certain answers of the query
 abbrev pub AnswerAs : Project → Query → List Query → Type 0
 AnswerAs project q qs = (facts : List Fact) → AreKnown facts → (tuple : List Term) → IsCertain (tbox project).axioms facts q tuple ↔ HasImage facts qs tuple
+
+-- the class or the link is one of the model, and no consistent list of known facts holds a fact of it
+abbrev pub IsVoidIn : Project → Void → Type 0
+IsVoidIn project v = IsElement (length project.model.classes) (length project.model.links) v × IsVoid (tbox project) v
+
+-- one proof for each void class, by number, then for each void link, by number, and for no other
+pub record AreVoids (project : Project) (proofs : List VoidProof) : Type 0 where
+  pub listed : IsListOf void_cmp (IsVoidIn project) (elements_of proofs)
+  pub shown : (proof : VoidProof) → In proof proofs → Shows (tbox project) proof
+
+-- over every known list of facts, the certain answers of the first query are certain answers of the second
+abbrev pub IsContainedIn : Project → Query → Query → Type 0
+IsContainedIn project first second = IsContained (tbox project).axioms first second
+
+-- of the queries that are printed for the rewriting of the second query, the first that maps into the first query has this number, counted from 1
+abbrev pub IsCoveredIn : Project → Query → Query → ℕ → Type 0
+IsCoveredIn project first second number = IsCovered (tbox project).axioms first second number
 
 -- one of the queries that a log asks has too many
 abbrev pub IsWide : Project → Type 0

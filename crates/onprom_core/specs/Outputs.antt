@@ -14,7 +14,7 @@ use Rattle.onprom_core.specs.Lines.{limit_line}
 use Rattle.onprom_core.specs.Jobs.{Ending, IsEnd, IsJobEnd}
 use Rattle.project_language.specs.declared.project.Project.{Project}
 use Rattle.onprom_core.specs.Steps.{Step, goes, ◌>>=◌, Halts}
-use Rattle.onprom_core.specs.Walk.{Files, Job, Extracting, Checking, Verifying, Answering, Rewriting, complete_step, file_step, query_step, sources_step, spell_step, walk}
+use Rattle.onprom_core.specs.Walk.{Files, Job, Extracting, Checking, Verifying, Answering, Rewriting, Linting, Containing, complete_step, file_step, query_step, sources_step, spell_step, walk, width_step}
 
 -- an output as an ending
 abbrev pub ended : Output → Ending
@@ -99,6 +99,18 @@ unfoldable pub rewrite_rest : List ℕ → Project → Step Job
 rewrite_rest name project = do
   query ← query_step project name
   goes (Rewriting project name query)
+
+-- those of `lint P`
+abbrev pub lint_rest : Project → Step Job
+lint_rest project = goes (Linting project)
+
+-- those of `contained P Q Q`
+unfoldable pub contained_rest : List ℕ → List ℕ → Project → Step Job
+contained_rest q r project = do
+  first ← query_step project q
+  other ← query_step project r
+  second ← width_step r first other
+  goes (Containing project first second)
 
 -- the number of the first item that is not so, counted from 1; none where all are so
 abbrev pub TellsFirst : {A : Type 0} → (A → Type 0) → List A → Option ℕ → Type 0

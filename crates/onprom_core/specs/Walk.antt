@@ -1,5 +1,5 @@
 -- How a run goes where the shelf tells its files and nothing fails: step by step to its first end or to its job.
-use Rattle.std.specs.Prelude.{◌≡◌, ℕ, ◌+◌, List, [], ◌∷◌, length, nat_lt, codes, Option, Some, None, Result, Ok, Err, if◌then◌else◌}
+use Rattle.std.specs.Prelude.{◌≡◌, ℕ, ◌+◌, List, [], ◌∷◌, length, nat_lt, ◌==◌, codes, Option, Some, None, Result, Ok, Err, if◌then◌else◌}
 use Rattle.std.specs.Str.{is_utf8}
 use Rattle.outside.specs.Files.{bytes_of}
 use Rattle.line_lexer.specs.Faults.{kind_of, limit_of, name_of}
@@ -23,8 +23,8 @@ use Rattle.project_language.specs.Project.{bad_line, read_project}
 use Rattle.onprom_core.specs.declared.status.Status.{Status}
 use Rattle.onprom_core.specs.declared.status.Status.TheVariants as status
 use Rattle.onprom_core.specs.declared.halt.Stopped.{Stopped}
-use Rattle.onprom_core.specs.Commands.{Command, Extract, Check, Verify, Answer, Rewrite, Make, command_of}
-use Rattle.onprom_core.specs.Lines.{usage_line, absent_line, limit_line, line_refused, query_refused, table_refused}
+use Rattle.onprom_core.specs.Commands.{Command, Extract, Check, Verify, Answer, Rewrite, Make, Lint, Contained, command_of}
+use Rattle.onprom_core.specs.Lines.{usage_line, absent_line, limit_line, line_refused, query_refused, table_refused, width_refused}
 use Rattle.onprom_core.specs.Meaning.{mapping_names}
 use Rattle.onprom_core.specs.Steps.{Step, goes, stops, ◌>>=◌}
 
@@ -85,6 +85,10 @@ found_step name (Some query) = goes query
 abbrev pub query_step : Project → List ℕ → Step Query
 query_step project name = found_step name (query_named project.noted.notes name)
 
+-- the heads of two queries have one length
+abbrev pub width_step : List ℕ → Query → Query → Step Query
+width_step name first second = if length first.head == length second.head then goes second else stop status.Refused (width_refused name)
+
 -- the tables so far have so many bytes together
 abbrev pub together_step : ℕ → Step ℕ
 together_step total = if nat_lt (limit_of TablesTogether) total then stop status.Limit (limit_line (name_of TablesTogether)) else goes total
@@ -139,6 +143,8 @@ pub data Job : Type 0 where
   Answering : Project → List Loaded → Query → Job
   Rewriting : Project → List ℕ → Query → Job
   Making : ℕ → List ℕ → Job
+  Linting : Project → Job
+  Containing : Project → Query → Query → Job
 
 -- `extract P`: the project, whose annotations lack nothing, and its tables
 unfoldable pub extract_step : Files → List ℕ → Step Job
@@ -177,6 +183,20 @@ rewrite_step files p q = do
   query ← query_step project q
   goes (Rewriting project q query)
 
+unfoldable pub lint_step : Files → List ℕ → Step Job
+lint_step files p = do
+  project ← project_step files p
+  goes (Linting project)
+
+-- both queries are found, in their order, before their heads are compared
+unfoldable pub contained_step : Files → List ℕ → List ℕ → List ℕ → Step Job
+contained_step files p q r = do
+  project ← project_step files p
+  first ← query_step project q
+  other ← query_step project r
+  second ← width_step r first other
+  goes (Containing project first second)
+
 -- what a command reads
 abbrev pub job_step : Files → Command → Step Job
 job_step files (Extract p) = extract_step files p
@@ -185,6 +205,8 @@ job_step files (Verify p d) = verify_step files p d
 job_step files (Answer p q) = answer_step files p q
 job_step files (Rewrite p q) = rewrite_step files p q
 job_step files (Make n f) = goes (Making n f)
+job_step files (Lint p) = lint_step files p
+job_step files (Contained p q r) = contained_step files p q r
 
 -- the walk up to the job
 unfoldable pub walk : List (List ℕ) → Files → Step Job

@@ -10,6 +10,7 @@ ghost use Rattle.project_language.specs.Sound.{IsSound};
 use crate::Status;
 use crate::lines::line_of;
 use crate::output::Output;
+use crate::specifying::specification;
 use crate::width::too_wide;
 use answer_text::{answers_report, answers_text};
 use certain_answers::answers;
@@ -34,7 +35,8 @@ pub(crate) fn answering(
     ensures well { IfOk result (EndsWell false) }
 {
     let tbox = axioms_of(alloc, &project.model)?;
-    match answers(alloc, &tbox, project.sources.mappings(), tables, query) {
+    let specification = specification(alloc, &tbox, project)?;
+    match answers(alloc, &specification, tables, query) {
         Ok(found) => answered(alloc, found.tuples.items()),
         Err(RewriteFault::TooWide) => too_wide(alloc),
         Err(RewriteFault::NoMemory) => Err(AllocError),

@@ -1,16 +1,18 @@
 //! The commands: reading what they need, and doing their jobs.
 ghost use Rattle.std.specs.Prelude.{◌≡◌, false, true, IfSome, IfOk, IfErr, IsErr};
 ghost use Rattle.onprom_core.specs.Causes.{CountsReading, SaysUsage, SaysUsageAtMost};
-ghost use Rattle.onprom_core.specs.Commands.{is_answer, is_check, is_extract, is_make, is_rewrite, is_verify};
+ghost use Rattle.onprom_core.specs.Commands.{is_answer, is_check, is_contained, is_extract, is_lint, is_make, is_rewrite, is_verify};
 ghost use Rattle.onprom_core.specs.Outputs.{EndsWell, ReadsNothing, Works, check_rest, extract_rest, verify_behind, verify_rest};
 ghost use Rattle.onprom_core.specs.Walk.{IsNoCommand, check_step, extract_step, verify_step, walk};
 ghost use Rattle.project_language.specs.Sound.{IsSound};
 
 use crate::Status;
 use crate::checking::checking;
+use crate::containing::contain;
 use crate::extraction::extraction;
 use crate::halt::{Halt, Stopped};
 use crate::lines::usage_line;
+use crate::linting::lint;
 use crate::making::making;
 use crate::naming::docs_named;
 use crate::output::Output;
@@ -49,6 +51,12 @@ pub(crate) fn work<S: Shelf>(alloc: Global, words: &Words, shelf: &mut S) -> Res
     if is_rewrite(words) {
         return rewrite(alloc, shelf, words.get(1), words.get(2));
     }
+    if is_lint(words) {
+        return lint(alloc, shelf, words.get(1));
+    }
+    if is_contained(words) {
+        return contain(alloc, shelf, words.get(1), words.get(2), words.get(3));
+    }
     if let Some(docs) = docs_named(words) {
         return Ok(making(alloc, docs, words.get(2))?);
     }
@@ -86,6 +94,18 @@ fn is_rewrite(words: &Words) -> bool
     ensures { result ≡ is_rewrite words.now }
 {
     words.len() == 3 && words.get(0) == "rewrite"
+}
+
+fn is_lint(words: &Words) -> bool
+    ensures { result ≡ is_lint words.now }
+{
+    words.len() == 2 && words.get(0) == "lint"
+}
+
+fn is_contained(words: &Words) -> bool
+    ensures { result ≡ is_contained words.now }
+{
+    words.len() == 4 && words.get(0) == "contained"
 }
 
 // Reads the project and its tables, and makes the log.

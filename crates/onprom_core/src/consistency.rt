@@ -24,7 +24,14 @@ pub(crate) fn contradictions(
     requires axioms { tbox.now ≡ tbox_of project.now }
     ensures { IfOk result (AreContradictions project.now tables.now) }
 {
-    conflicts(alloc, tbox, project.sources.mappings(), tables)
+    conflicts(
+        alloc,
+        tbox,
+        project.model.classes(),
+        project.model.links(),
+        project.sources.mappings(),
+        tables,
+    )
 }
 
 // No table has more rows than one may have.

@@ -11,6 +11,7 @@ use crate::Status;
 use crate::consistency::{contradictions, spelled};
 use crate::lines::line_of;
 use crate::output::Output;
+use crate::specifying::specification;
 use crate::width::too_wide;
 use conflict_checker::Derivation;
 use dllite_axioms::Tbox;
@@ -76,7 +77,8 @@ fn logged(
     ensures well { IfOk result (EndsWell false) }
 {
     let notes = project.noted.notes();
-    match ask(alloc, notes, tbox, project.sources.mappings(), tables) {
+    let specification = specification(alloc, tbox, project)?;
+    match ask(alloc, notes, &specification, tables) {
         Ok(asked) => extracted(alloc, project, &asked),
         Err(RewriteFault::TooWide) => too_wide(alloc),
         Err(RewriteFault::NoMemory) => Err(AllocError),

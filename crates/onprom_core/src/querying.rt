@@ -112,8 +112,8 @@ fn rewrite_from(alloc: Global, project: &Project, name: &str) -> Result<Output, 
     Ok(output)
 }
 
-// The query that can be asked by the name.
-fn found<'a>(alloc: Global, project: &'a Project, name: &str) -> Result<&'a Query, Halt>
+/// The query that can be asked by the name.
+pub(crate) fn found<'a>(alloc: Global, project: &'a Project, name: &str) -> Result<&'a Query, Halt>
     requires { IsSound project.now }
     ensures told { Gives (λ query. query.now) result (query_step project.now name.now) }
     ensures askable { IfOk result (λ query. IsAskable query.now) }

@@ -9,6 +9,7 @@ ghost use Rattle.onprom_core.specs.Rewritten.{PrintsKept, done_with};
 
 use crate::Status;
 use crate::lines::line_of;
+use crate::model_names::{class_names, link_names};
 use crate::output::Output;
 use crate::width::too_wide;
 use answer_text::{QueryNames, queries_report, queries_text};
@@ -17,8 +18,8 @@ use project_language::Project;
 use queries::Query;
 use query_subsumption::drop_subsumed;
 use std::alloc::{AllocError, Global};
-use uml_model::{Model, axioms_of};
-use vocabulary::{ClassId, LinkId, List, Name};
+use uml_model::axioms_of;
+use vocabulary::{List, Name};
 
 /// The rewriting of the query of this name, without the queries for which others stand.
 pub(crate) fn rewriting(
@@ -97,26 +98,4 @@ fn variables<'a>(project: &'a Project, name: &str) -> &'a [Name]
         Some(variables) => variables,
         None => &[],
     }
-}
-
-#[tactic(auto, using(crate::proofs::Taking::take_next))]
-fn class_names(alloc: Global, model: &Model) -> Result<List<Name>, AllocError>
-    ensures { IfOk result (λ names. names ≡ model.now.classes) }
-{
-    let mut names = List::new(alloc);
-    for class in 0..model.classes() {
-        names.push(Name::new(alloc, model.class_name(ClassId(class)))?)?;
-    }
-    Ok(names)
-}
-
-#[tactic(auto, using(crate::proofs::Taking::take_next))]
-fn link_names(alloc: Global, model: &Model) -> Result<List<Name>, AllocError>
-    ensures { IfOk result (λ names. names ≡ model.now.links) }
-{
-    let mut names = List::new(alloc);
-    for link in 0..model.links() {
-        names.push(Name::new(alloc, model.link_name(LinkId(link)))?)?;
-    }
-    Ok(names)
 }

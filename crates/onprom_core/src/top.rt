@@ -1,11 +1,11 @@
 //! The top call.
-ghost use Rattle.std.specs.Prelude.{◌≡◌, ◌≢◌, true, IfSome, IsTrue};
+ghost use Rattle.std.specs.Prelude.{◌≡◌, ◌≢◌, false, true, IfSome, IsTrue};
 ghost use Rattle.std.specs.Io.KnownBytes.{Appends, Keeps};
 ghost use Rattle.outside.specs.Counts.{Rose};
 ghost use Rattle.onprom_core.specs.Causes.{IsWhole};
 ghost use Rattle.onprom_core.specs.Commands.{is_make};
 ghost use Rattle.onprom_core.specs.Delivery.{EndsAs, EndsCut, EndsReporting, EndsEarly, ReportsFault, NamesFile, KeepsOut, Completes, AnswersNoCommand};
-ghost use Rattle.onprom_core.specs.Headline.{Answers, Checks, ChecksSoundly, Extracts, ExtractsSoundly, Makes, Rewrites, Verifies, VerifiesSoundly};
+ghost use Rattle.onprom_core.specs.Headline.{Answers, Checks, ChecksSoundly, Compares, ComparesSoundly, Extracts, ExtractsSoundly, Lints, LintsSoundly, Makes, Rewrites, Verifies, VerifiesSoundly};
 ghost use Rattle.onprom_core.specs.Lines.{absent_line, fault_line, usage_line};
 ghost use Rattle.onprom_core.specs.Walk.{walk, IsNoCommand};
 
@@ -56,6 +56,20 @@ pub fn run<S: Shelf, O: Sink, R: Sink>(
     ensures rewrites { IfSome (S.held shelf.old) (λ files. Rewrites words.now files
         (S.faults shelf.old) (S.faults shelf.new) (O.faults out.old) (O.faults out.new) (R.faults report.old) (R.faults report.new)
         (O.written out.old) (O.written out.new) (R.written report.old) (R.written report.new) result) }
+    // The promise of `lint`: what is void in the model of a project that is read.
+    ensures lints { IfSome (S.held shelf.old) (λ files. Lints words.now files
+        (S.faults shelf.old) (S.faults shelf.new) (O.faults out.old) (O.faults out.new) (R.faults report.old) (R.faults report.new)
+        (O.written out.old) (O.written out.new) (R.written report.old) (R.written report.new) result) }
+    // A lint that is done wrote what is void in a project that is read.
+    ensures lints_soundly { IfSome (S.held shelf.old) (λ files. LintsSoundly words.now files
+        (O.written out.old) (O.written out.new) (R.written report.old) (R.written report.new) result) }
+    // The promise of `contained`: whether the certain answers of one query are certain answers of another, whatever the facts.
+    ensures compares { IfSome (S.held shelf.old) (λ files. Compares words.now files
+        (S.faults shelf.old) (S.faults shelf.new) (O.faults out.old) (O.faults out.new) (R.faults report.old) (R.faults report.new)
+        (O.written out.old) (O.written out.new) (R.written report.old) (R.written report.new) result) }
+    // A comparison that is done told whether they are.
+    ensures compares_soundly { IfSome (S.held shelf.old) (λ files. ComparesSoundly words.now files
+        (O.written out.old) (O.written out.new) (R.written report.old) (R.written report.new) result) }
     // The promise of `make`, whatever the shelf holds or tells: the made files, and what is said of their log.
     ensures makes { Makes words.now (O.faults out.old) (O.faults out.new) (R.faults report.old) (R.faults report.new)
         (O.written out.old) (O.written out.new) (R.written report.old) (R.written report.new) result }
@@ -78,6 +92,9 @@ pub fn run<S: Shelf, O: Sink, R: Sink>(
     ensures early { IfSome (S.held shelf.old) (λ files. result ≡ Status.NoMemory →
         EndsEarly words.now files (S.faults shelf.old) (S.faults shelf.new) (S.absences shelf.old) (S.absences shelf.new)
         (O.written out.old) (O.written out.new) (R.written report.old) (R.written report.new)) }
+    // Over sinks that want no memory, want of memory comes before anything is written.
+    ensures unwritten { result ≡ Status.NoMemory → O.wants out.old ≡ false → R.wants report.old ≡ false →
+        Keeps (O.written out.old) (O.written out.new) × Keeps (R.written report.old) (R.written report.new) }
     // Where the walk comes to its job and no count of faults rises, the job is done, unless memory is short.
     ensures complete { IfSome (S.held shelf.old) (λ files. Completes (walk words.now files).end
         (S.faults shelf.old) (S.faults shelf.new) (O.faults out.old) (O.faults out.new)

@@ -21,3 +21,10 @@ pub record FailingSink : Type 0 where
   pub most : ℕ
   pub failed : Bool
   pub calls : CountedCalls
+
+-- a sink that holds so many bytes and no more
+pub record RoomySink : Type 0 where
+  pub written : List ℕ
+  pub room : ℕ
+  pub failed : Bool
+  pub faults : ℕ

@@ -36,6 +36,14 @@ impl Bytes {
         &self.items
     }
 
+    /// The bytes as a `Vec`. They are not copied.
+    pub fn into_vec(self) -> Vec<u8>
+        ensures { result.items ≡ self }
+    {
+        let Bytes { items } = self;
+        items
+    }
+
     /// How many bytes there are.
     pub fn len(&self) -> usize
         ensures { result ≡ length self.now }

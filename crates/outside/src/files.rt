@@ -5,6 +5,7 @@ ghost use Rattle.outside.specs.Files.{bytes_of};
 ghost use Rattle.outside.specs.Opened.{left_of};
 
 use crate::Bytes;
+use crate::copying::copy_front;
 use std::alloc::{AllocError, Global};
 use std::marker::Model;
 
@@ -93,16 +94,6 @@ impl Files {
         self.place += count;
         count
     }
-}
-
-// Copies as much as there is room for.
-fn copy_front(from: &[u8], to: &mut [u8]) -> usize
-    ensures count { result ≡ min (length from.now) (length to.new) }
-    ensures copied { take result to.new ≡ take result from.now }
-{
-    let count = from.len().min(to.len());
-    to[..count].copy_from_slice(&from[..count]);
-    count
 }
 
 fn rest_from(bytes: &[u8], place: usize) -> &[u8]

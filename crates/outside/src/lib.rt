@@ -7,11 +7,13 @@
 
 mod bytes;
 mod calls;
+mod copying;
 mod files;
 mod folder;
 mod memory_shelf;
 mod memory_sink;
 mod read;
+mod room_sink;
 pub mod shelf;
 pub mod sink;
 mod stream;
@@ -21,10 +23,12 @@ mod words;
 mod write;
 
 pub use bytes::Bytes;
+pub use copying::fill;
 pub use folder::FolderShelf;
 pub use memory_shelf::MemoryShelf;
 pub use memory_sink::MemorySink;
 pub use read::{FileFault, read_file};
+pub use room_sink::RoomSink;
 pub use shelf::{Failed, Shelf};
 pub use sink::{Sink, Stop};
 pub use stream::StreamSink;

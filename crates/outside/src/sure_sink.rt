@@ -35,6 +35,14 @@ impl SureSink {
     {
         self.bytes.slice()
     }
+
+    /// All that was written. It is not copied.
+    pub fn into_written(self) -> Vec<u8>
+        ensures { result.items ≡ self }
+    {
+        let SureSink { bytes } = self;
+        bytes.into_vec()
+    }
 }
 
 impl Sink for SureSink {

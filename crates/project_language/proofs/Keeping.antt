@@ -1,14 +1,15 @@
 -- What a line keeps of a project that is sound.
-use Rattle.std.proofs.Common.{◌≡◌, subst, arith, length-append, List, [], ◌∷◌, length, ℕ, ◌≤◌, Some, inl, inr, Result, Ok, Err, OnOk}
-use Rattle.line_lexer.specs.Tokens.{Seen, tokens_of}
+use Rattle.std.proofs.Common.{◌≡◌, refl, subst, arith, length-append, List, [], ◌∷◌, length, ℕ, ◌≤◌, Option, Some, None, inl, inr, Result, Ok, Err, OnOk}
+use Rattle.line_lexer.specs.Tokens.{Begins, Seen, tokens_of}
 use Rattle.line_lexer.specs.declared.fault.LineFault.{LineFault}
-use Rattle.uml_model.specs.Lines.{Line, Class, Sub, Disjoint, Assoc, Attr, SubAssoc, SubAttr, DisjointAssoc, Identify, model_line}
-use Rattle.uml_model.specs.Rules.{Known, grown, read_line}
+use Rattle.uml_model.specs.Lines.{Line, Class, Sub, Disjoint, Assoc, Attr, SubAssoc, SubAttr, DisjointAssoc, Identify}
+use Rattle.uml_model.specs.Rules.{Known, grown, read_line, read_tokens as model_tokens}
 use Rattle.uml_model.specs.Sorts.{IsModel}
 use Rattle.mapping_facts.specs.declared.mapping.Mapping.{Mapping}
 use Rattle.mapping_facts.specs.declared.mapping.Target.{Target}
 use Rattle.mapping_facts.specs.declared.mapping.Target.TheVariants.{InClass, Linked}
-use Rattle.mapping_language.specs.Within.{AreFew, AreMappingsWithin, IsTargetWithin}
+use Rattle.mapping_language.specs.Within.{AreFew}
+use Rattle.mapping_facts.specs.Within.{AreMappingsWithin, IsTargetWithin}
 use Rattle.queries.specs.declared.query.Atom.{Atom}
 use Rattle.queries.specs.declared.query.Atom.TheVariants as atom
 use Rattle.queries.specs.declared.query.Query.{Query}
@@ -18,7 +19,8 @@ use Rattle.annotation_language.specs.declared.notes.EventNote.{EventNote}
 use Rattle.annotation_language.specs.declared.notes.Annotations.{Annotations}
 use Rattle.annotation_language.specs.Lines.{Noted, nothing}
 use Rattle.annotation_language.specs.Askable.{OfEach, OfEvent, OfSource}
-use Rattle.annotation_language.specs.Within.{AreAskedWithin, IsAtomWithin, IsQueryWithin}
+use Rattle.annotation_language.specs.Within.{AreAskedWithin}
+use Rattle.queries.specs.Within.{IsAtomWithin, IsQueryWithin}
 use Rattle.project_language.specs.declared.project.Project.{Project}
 use Rattle.project_language.specs.Sound.{IsSound}
 use Rattle.project_language.proofs.Leaving.{Leaves, leaves}
@@ -110,3 +112,16 @@ model_kept (Ok x) p new text tokens sound told read model =
       asked_within = asked_wider (length p.model.classes) (length p.model.links) (length new.classes) (length new.links) p.noted.notes more.classes more.links sound.asked_within;
     }
 model_kept (Err fault) p new text tokens sound told read model = tt
+
+-- where its first token is known
+pub model_kept_begun : {T : Type 0} (r : Result T LineFault) (p : Project) (new : Known) (text : List ℕ) (t : Seen) → IsSound p → Begins t (tokens_of text)
+    → OnOk r (read_line p.model text ≡ Ok new) → OnOk r (IsModel new) → OnOk r (IsSound (record p { model = new }))
+model_kept_begun {T} r p new text t sound begins read model = by (tokens_of text) refl
+  where
+    never : (r : Result T LineFault) → tokens_of text ≡ None → OnOk r (read_line p.model text ≡ Ok new) → OnOk r (IsSound (record p { model = new }))
+    never (Ok x) none read = absurd (let e : model_tokens p.model None ≡ Ok new = subst (λ o. model_tokens p.model o ≡ Ok new) none read in cc)
+    never (Err fault) none read = tt
+
+    by : (o : Option (List Seen)) → tokens_of text ≡ o → OnOk r (IsSound (record p { model = new }))
+    by None told = never r told read
+    by (Some tokens) told = model_kept r p new text tokens sound told read model

@@ -2,6 +2,7 @@
 use Rattle.std.proofs.Common.{◌≡◌, refl, ℕ, List, [], ◌∷◌, ◌++◌, Option, Some, None, Result, Ok, Err, codes, map}
 use Rattle.std.specs.Str.{chars, is_utf8}
 use Rattle.std.specs.Str.Lossy.{utf8_valid_len}
+use Rattle.line_lexer.specs.Separated.{at_most}
 use Rattle.line_lexer.specs.Tokens.{tokens_behind, token_front}
 use Rattle.line_lexer.specs.declared.fault.LineFault.TheVariants.{Syntax, Unknown, Double, NotBounded, MixedSort, HeadUnbound}
 use Rattle.iri_templates.specs.Templates.{template_of}
@@ -36,7 +37,7 @@ papers line = codes "onprom 1\ntable paper \"paper.csv\"\ncolumn paper id int\nc
 
 added : faults (map papers (codes "map w from paper p then Paper(iri \"http://e/p{p.id}\")" ∷ codes "query q (x) where submittedAt(y, x), Paper(x)" ∷ codes "query q (z) where Paper(x)" ∷ codes "query q (x) where Paper(x" ∷ codes "query q (x) where Paper(x)\n" ∷ []))
     ≡ Some (Line 6 NotBounded) ∷ Some (Line 6 MixedSort) ∷ Some (Line 6 HeadUnbound) ∷ Some (Line 6 Syntax) ∷ None ∷ []
-unfolding chars tokens_behind token_front model_lines.model_line model_lines.attr_line model_lines.multiplicity_at model_rules.broken map_grammar.source_line map_grammar.table_line map_grammar.column_line map_tables.broken map_tables.grown map_grammar.at_most map_grammar.map_line map_grammar.target map_mappings.holes map_mappings.broken map_mappings.grown template_of note_grammar.at_most note_grammar.atom note_grammar.of_any note_grammar.annotation_line note_lines.broken note_lines.grown open_lines read_lines read_project is_utf8 lib.Utf8.encode
+unfolding chars tokens_behind token_front model_lines.model_line model_lines.attr_line model_lines.multiplicity_at model_rules.broken map_grammar.source_line map_grammar.table_line map_grammar.column_line map_tables.broken map_tables.grown at_most map_grammar.map_line map_grammar.target map_mappings.holes map_mappings.broken map_mappings.grown template_of note_grammar.atom note_grammar.of_any note_grammar.annotation_line note_lines.broken note_lines.grown open_lines read_lines read_project is_utf8 lib.Utf8.encode
 added = refl
 
 -- a byte FF in line 2
@@ -47,5 +48,5 @@ not_utf8 = refl
 -- lines that state constraints are judged as all others
 constrained : faults (map papers (codes "disjoint Paper Zed" ∷ codes "assoc p Paper 0..1 -> Paper *" ∷ codes "attr Paper t text 1..1" ∷ codes "disjoint Paper" ∷ codes "identify Paper (submittedAt)" ∷ []))
     ≡ Some (Line 6 Unknown) ∷ None ∷ None ∷ Some (Line 6 Syntax) ∷ None ∷ []
-unfolding chars tokens_behind token_front model_lines.model_line model_lines.attr_line model_lines.assoc_line model_lines.multiplicity_at model_lines.identify_line model_lines.at_most model_rules.is_functional model_rules.broken map_grammar.source_line map_grammar.table_line map_grammar.column_line map_tables.broken map_tables.grown open_lines read_lines read_project is_utf8 lib.Utf8.encode
+unfolding chars tokens_behind token_front model_lines.model_line model_lines.attr_line model_lines.assoc_line model_lines.multiplicity_at model_lines.identify_line at_most model_rules.is_functional model_rules.broken map_grammar.source_line map_grammar.table_line map_grammar.column_line map_tables.broken map_tables.grown open_lines read_lines read_project is_utf8 lib.Utf8.encode
 constrained = refl

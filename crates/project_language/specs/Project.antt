@@ -58,6 +58,12 @@ opening None = Err line_fault.Syntax
 opening (Some []) = Ok false
 opening (Some (t ∷ ts)) = if is_opening (t ∷ ts) then Ok true else Err line_fault.Syntax
 
+-- the fault of a line that begins with `onprom` and is not the first, by whether it is the opening line again
+abbrev pub again : Result Bool LineFault → LineFault
+again (Ok true) = line_fault.Double
+again (Ok false) = line_fault.Syntax
+again (Err fault) = fault
+
 abbrev pub map_ok : {A B : Type 0} → (A → B) → Result A LineFault → Result B LineFault
 map_ok f (Ok x) = Ok (f x)
 map_ok f (Err fault) = Err fault

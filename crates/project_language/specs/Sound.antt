@@ -4,7 +4,8 @@ use Rattle.line_lexer.specs.Names.{AreNames}
 use Rattle.uml_model.specs.Sorts.{IsModel}
 use Rattle.mapping_facts.specs.Fits.{AreFit}
 use Rattle.mapping_language.specs.Changes.{HaveOffsets}
-use Rattle.mapping_language.specs.Within.{AreFew, AreMappingsWithin}
+use Rattle.mapping_language.specs.Within.{AreFew}
+use Rattle.mapping_facts.specs.Within.{AreMappingsWithin}
 use Rattle.annotation_language.specs.Askable.{AreAskable}
 use Rattle.annotation_language.specs.Within.{AreAskedWithin}
 use Rattle.project_language.specs.declared.project.Project.{Project}

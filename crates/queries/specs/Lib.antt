@@ -6,3 +6,4 @@ pub mod Normal
 pub mod Occurrences
 pub mod Order
 pub mod Unifying
+pub mod Within

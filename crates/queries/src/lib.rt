@@ -16,4 +16,4 @@ mod unify;
 pub use check::QueryFault;
 pub use order::{compare_terms, compare_tuples};
 pub use query::{Arg, Atom, Query};
-pub use unify::{Change, Meeting, Union};
+pub use unify::{Change, Meeting, Union, meet};

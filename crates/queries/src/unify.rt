@@ -276,7 +276,9 @@ fn link_union(
     })
 }
 
-fn meet(alloc: Global, x: &Arg, y: &Arg) -> Result<Option<Meeting>, AllocError>
+/// What two arguments become, a Blank the other, of two variables the higher number the lower, a
+/// variable the constant. `None` for two different constants.
+pub fn meet(alloc: Global, x: &Arg, y: &Arg) -> Result<Option<Meeting>, AllocError>
     ensures { IfOk result (λ made. made ≡ met x.now y.now) }
 {
     match (x, y) {

@@ -1,11 +1,14 @@
-//! Collecting the terms of row queries, each tuple as often as it is found.
+//! Collecting the images of queries, each tuple as often as it is found.
 ghost use Rattle.std.specs.Prelude.{◌≡◌, ◌++◌, All, OnOk};
-ghost use Rattle.mapping_facts.specs.Fits.{RowQueryFits};
-ghost use Rattle.query_images.specs.Images.{all_heads, head_at, heads_of};
+ghost use Rattle.mapping_facts.specs.Facts.{mapped_facts};
+ghost use Rattle.mapping_facts.specs.Fits.{AreFit, RowQueryFits};
+ghost use Rattle.query_images.specs.Images.{CanUnfold, Gains, IsImage, all_heads, head_at, heads_of};
 
 use join_engine::join;
-use mapping_facts::{RowQuery, terms_of};
-use mapping_unfolding::Unfolded;
+use mapping_facts::laws::have_texts;
+use mapping_facts::{Mapping, RowQuery, terms_of};
+use mapping_unfolding::{Unfolded, unfold};
+use queries::Query;
 use source_tables::Table;
 use std::alloc::{AllocError, Global};
 use vocabulary::{List, Term};
@@ -44,8 +47,8 @@ fn add_row_query(
     Ok(())
 }
 
-/// The terms of each tuple of each row query.
-pub(crate) fn add_row_queries(
+// The terms of each tuple of each row query.
+fn add_row_queries(
     alloc: Global,
     list: &[Unfolded],
     tables: &[Table],
@@ -58,4 +61,21 @@ pub(crate) fn add_row_queries(
         add_row_query(alloc, &unfolded.rows, tables, out)?;
     }
     Ok(())
+}
+
+/// The images of one query, which is unfolded and joined.
+pub(crate) fn add_images(
+    alloc: Global,
+    query: &Query,
+    mappings: &[Mapping],
+    tables: &[Table],
+    out: &mut Vec<List<Term>>,
+) -> Result<(), AllocError>
+    requires query { CanUnfold query.now }
+    requires fit { AreFit mappings.now }
+    ensures { OnOk result (Gains (IsImage (mapped_facts mappings.now tables.now) query.now) out.old.items out.new.items) }
+{
+    have_texts(tables);
+    let list = unfold(alloc, query, mappings)?;
+    add_row_queries(alloc, list.items(), tables, out)
 }

@@ -5,4 +5,4 @@ mod collecting;
 mod imaging;
 mod ordering;
 
-pub use imaging::images;
+pub use imaging::{images, union_images};

@@ -1,5 +1,6 @@
 pub mod Images
 pub mod Kept
+pub mod Laws
 pub mod Numbered
 pub mod Search
 pub mod Subsumption

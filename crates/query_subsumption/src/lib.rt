@@ -6,6 +6,7 @@
 
 mod bindings;
 mod kept;
+pub mod laws;
 mod mapping;
 mod numbering;
 mod search;

@@ -1,10 +1,14 @@
-//! Tests of names and terms, axioms, queries, rewriting, subsumption and the negative closure.
+//! Tests of names and terms, axioms, queries, rewriting, folds, subsumption, the negative closure and void elements.
 #![tactic(auto)]
 
 #[cfg(test)]
 mod applying;
 #[cfg(test)]
 mod closure;
+#[cfg(test)]
+mod folding;
+#[cfg(test)]
+mod linting;
 #[cfg(test)]
 mod questions;
 #[cfg(test)]

@@ -30,7 +30,7 @@ fn is_axiom_within(axiom: Axiom, classes: u32, links: u32) -> bool
     }
 }
 
-fn are_within(axioms: &[Axiom], classes: u32, links: u32) -> bool
+pub fn are_within(axioms: &[Axiom], classes: u32, links: u32) -> bool
     ensures { IsTrue result → (a : AxiomOf) → In a axioms.now → IsAxiomWithin classes links a }
 {
     for axiom in axioms {
@@ -66,7 +66,8 @@ pub fn has_exact_sources(axioms: &[Axiom], constraint: &Constraint) -> bool
 }
 
 pub fn downs_of(alloc: Global, tbox: &Tbox, classes: u32, links: u32) -> Result<Downs, Fail>
-    ensures { IfOk result (λ d. d ≡ record { axioms = tbox.now.axioms; classes = classes; links = links }) }
+    ensures downs { IfOk result (λ d. d ≡ record { axioms = tbox.now.axioms; classes = classes; links = links }) }
+    ensures within { IfOk result (λ d. (a : AxiomOf) → In a d.axioms → IsAxiomWithin d.classes d.links a) }
 {
     if classes > 400 || links > 600 || tbox.axioms().len() > 99 {
         return Err(Fail::new("too many"));

@@ -11,9 +11,10 @@ use Rattle.source_tables.specs.declared.decl.TableDecl.{TableDecl}
 use Rattle.source_tables.specs.declared.fault.TableFault.{TableFault}
 use Rattle.source_tables.specs.declared.fault.TableFault.TheVariants.{NotUtf8, Width, TooManyRows}
 use Rattle.source_tables.specs.Cells.{Cell, Row, HasText}
-use Rattle.source_tables.specs.Tables.{OrFault, ◌>>=◌, check_keys, checked_cells, checked_row, cut_rows, rows_limit}
+use Rattle.source_tables.specs.Tables.{OrFault, TellsApart, ◌>>=◌, check_keys, checked_cells, checked_row, cut_rows, rows_limit}
 use Rattle.source_tables.specs.Loading.{AddsRow, AreRead, Fails, Puts, PutsRow, key_texts, keyed_row, place_in, placed_cells, row_at, rows_in}
 use Rattle.source_tables.proofs.Cutting.{length-cut_rows}
+use Rattle.source_tables.proofs.KeysApart.{keys_more}
 use Rattle.source_tables.proofs.Rows.{by_places}
 
 -- rows that are cut off the front do not see what is put behind
@@ -128,13 +129,17 @@ row_added decl header count fields old new indexes push read ok =
 
 pub read_more : (decl : TableDecl) (header : List (List ℕ)) (count : ℕ) (fields : List (List ℕ)) (old new : Grid) (indexes after : List (List (List ℕ)))
     → Pushed decl header (count + 1) fields old new → AreRead decl count old indexes → count < 1_000_000
+    → check_keys (rows_in decl count new) (count + 1) (row_at (length decl.columns) count new.cells) decl.keys ≡ Ok (row_at (length decl.columns) count new.cells)
     → after ≡ map (λ key. key_texts key (rows_in decl count new ++ (row_at (length decl.columns) count new.cells ∷ []))) decl.keys
     → AreRead decl (count + 1) new after
-read_more decl header count fields old new indexes after push read room e = record {
+read_more decl header count fields old new indexes after push read room right e = record {
   most = omega arith;
   long = omega (arith, read.long, ap length push.puts.behind, length-append old.cells push.row, push.long);
   cols = λ some. push.puts.cols ∙ read.cols some;
   texts = subst (λ (cells : List Cell). All HasText cells) (sym push.puts.behind) (All-append HasText old.cells push.row read.texts push.puts.texts);
+  keys = subst (λ (rows : List Row). All (TellsApart rows) decl.keys) (sym (rows_after decl count new))
+      (keys_more (rows_in decl count new) (count + 1) (row_at (length decl.columns) count new.cells) (row_at (length decl.columns) count new.cells) decl.keys
+      (subst (λ (rows : List Row). All (TellsApart rows) decl.keys) (sym (rows_before decl header (count + 1) count fields old new push read.long)) read.keys) right);
   numbered = e ∙ ap (λ (rows : List Row). map (λ key. key_texts key rows) decl.keys) (sym (rows_after decl count new));
 }
 

@@ -98,7 +98,7 @@ cells_same-true (a ∷ as') (b ∷ bs) e =
 bytes_self : (a : List ℕ) → bytes_eq a a ≡ true
 bytes_self a = (bytes_eq-Decides a a).1 refl
 
-cells_self : (as' : List Cell) → cells_same as' as' ≡ true
+pub cells_self : (as' : List Cell) → cells_same as' as' ≡ true
 cells_self [] = refl
 cells_self (None ∷ as') = cells_self as'
 cells_self (Some a ∷ as') = rw (bytes_self a) (cells_self as')

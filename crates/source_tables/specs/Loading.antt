@@ -9,7 +9,7 @@ use Rattle.source_tables.specs.declared.fault.TableFault.{TableFault}
 use Rattle.source_tables.specs.declared.fault.TableFault.TheVariants.{NoMemory}
 use Rattle.cell_store.specs.Grid.{Grid}
 use Rattle.source_tables.specs.Cells.{Cell, Row, HasText, is_null}
-use Rattle.source_tables.specs.Tables.{Loaded, OrFault, ◌>>=◌, check_keys, checked_cell, checked_cells, checked_header, checked_rows, cut_rows, key_cells, rows_limit}
+use Rattle.source_tables.specs.Tables.{Loaded, OrFault, TellsApart, ◌>>=◌, check_keys, checked_cell, checked_cells, checked_header, checked_rows, cut_rows, key_cells, rows_limit}
 
 -- a fault is the one that is due, unless memory ran out
 abbrev pub Fails : {A : Type 0} → TableFault → OrFault A → Type 0
@@ -64,12 +64,13 @@ IsKeyText whole cells text = (list_any is_null cells ≡ not whole) × (whole �
 abbrev pub HasRow : ℕ → ℕ → Grid → Type 0
 HasRow width row cells = (length cells.cells ≡ row * width + width) × (width ≢ 0 → cells.cols ≡ width) × (row < 1_000_000)
 
--- so many rows were read: their cells, and for each key the texts of its cells
+-- so many rows were read: their cells, told apart by each key, and for each key the texts of its cells
 pub record AreRead (decl : TableDecl) (count : ℕ) (cells : Grid) (indexes : List (List (List ℕ))) : Type 0 where
   pub most : count ≤ rows_limit
   pub long : length cells.cells ≡ count * length decl.columns
   pub cols : length decl.columns ≢ 0 → cells.cols ≡ length decl.columns
   pub texts : All HasText cells.cells
+  pub keys : All (TellsApart (cut_rows count (length decl.columns) cells.cells)) decl.keys
   pub numbered : indexes ≡ map (λ key. key_texts key (cut_rows count (length decl.columns) cells.cells)) decl.keys
 
 abbrev pub rows_in : TableDecl → ℕ → Grid → List Row

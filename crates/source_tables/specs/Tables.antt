@@ -1,5 +1,5 @@
 -- The table that the bytes of a file are under a declaration, or their first fault.
-use Rattle.std.specs.Prelude.{ℕ, ℤ, zero, suc, ◌+◌, ◌==◌, nat_lt, nat_eq, not, Bool, true, false, ◌&&◌, if◌then◌else◌, List, [], ◌∷◌, ◌++◌, length, take, drop, get_or, map, count_by, position, Option, Some, None, Result, Ok, Err}
+use Rattle.std.specs.Prelude.{◌≡◌, ◌<◌, ℕ, ℤ, zero, suc, ◌+◌, ◌==◌, nat_lt, nat_eq, not, Bool, true, false, ◌&&◌, if◌then◌else◌, List, [], ◌∷◌, ◌++◌, length, take, drop, get_or, map, count_by, position, Option, Some, None, Result, Ok, Err}
 use Rattle.std.specs.List.{All, list_all, list_any, position_or_len}
 use Rattle.std.specs.Str.{bytes_eq, is_utf8}
 use Rattle.csv.specs.Reading.{records, default_config, strip_bom}
@@ -123,6 +123,14 @@ check_key before n row key =
 abbrev pub check_keys : List Row → ℕ → Row → List (List ColId) → OrFault Row
 check_keys before n row [] = Ok row
 check_keys before n row (key ∷ keys) = check_key before n row key >>= (λ checked. check_keys before n row keys)
+
+-- of these rows no two agree in all columns of the key
+abbrev pub TellsApart : List Row → List ColId → Type 0
+TellsApart rows key = (i j : ℕ) → i < length rows → j < length rows → key_cells key (get_or rows i []) ≡ key_cells key (get_or rows j []) → i ≡ j
+
+-- and so for each key of the table
+abbrev pub HasKeys : Loaded → Type 0
+HasKeys table = All (TellsApart table.rows) table.decl.keys
 
 abbrev pub rows_limit : ℕ
 rows_limit = 1_000_000

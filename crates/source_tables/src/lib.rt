@@ -18,5 +18,5 @@ mod value;
 pub use decl::{ColumnDecl, TableDecl};
 pub use fault::TableFault;
 pub use loading::load;
-pub use table::{Table, have_texts};
+pub use table::{Table, have_keys, have_texts};
 pub use value::read_value;

@@ -3,7 +3,7 @@ ghost use Rattle.std.specs.Prelude.{◌≡◌, ◌≢◌, ◌≤◌, ◌*◌, []
 ghost use Rattle.std.specs.List.{All, list_all, list_any};
 ghost use Rattle.std.specs.Option.{option_copied};
 ghost use Rattle.source_tables.specs.Cells.{HasText};
-ghost use Rattle.source_tables.specs.Tables.{HasTexts, cut_rows, has_key_in};
+ghost use Rattle.source_tables.specs.Tables.{HasKeys, HasTexts, TellsApart, cut_rows, has_key_in};
 
 use crate::TableDecl;
 use cell_store::Cells;
@@ -25,13 +25,13 @@ impl Model for Table {
     ghost use Rattle.std.specs.Prelude.{◌≡◌, ◌≤◌, ◌*◌, ◌≢◌, length};
     ghost use Rattle.std.specs.List.{All};
     ghost use Rattle.source_tables.specs.Cells.{HasText};
-    ghost use Rattle.source_tables.specs.Tables.{Loaded, cut_rows};
+    ghost use Rattle.source_tables.specs.Tables.{Loaded, TellsApart, cut_rows};
 
     ghost Value = { Loaded };
 
     ghost view = { λ t. record { decl = t.decl; rows = cut_rows t.rows (length t.decl.columns) t.cells.cells } };
 
-    ghost invariant = { λ t. (t.rows ≤ 1_000_000) × (length t.cells.cells ≡ t.rows * length t.decl.columns) × (length t.decl.columns ≢ 0 → t.cells.cols ≡ length t.decl.columns) × All HasText t.cells.cells };
+    ghost invariant = { λ t. (t.rows ≤ 1_000_000) × (length t.cells.cells ≡ t.rows * length t.decl.columns) × (length t.decl.columns ≢ 0 → t.cells.cols ≡ length t.decl.columns) × All HasText t.cells.cells × All (TellsApart (cut_rows t.rows (length t.decl.columns) t.cells.cells)) t.decl.keys };
 }
 
 fn is_among(col: ColId, cols: &[ColId]) -> bool
@@ -58,6 +58,7 @@ impl Table {
         requires long { length cells.cells ≡ rows * length decl.now.columns }
         requires cols { length decl.now.columns ≢ 0 → cells.cols ≡ length decl.now.columns }
         requires texts { All HasText cells.cells }
+        requires keys { All (TellsApart (cut_rows rows (length decl.now.columns) cells.cells)) decl.now.keys }
         ensures { IfOk result (λ t. t ≡ record { decl = decl.now; rows = cut_rows rows (length decl.now.columns) cells.cells }) }
     {
         let decl = decl.copy(alloc)?;
@@ -105,6 +106,13 @@ impl Table {
     {
         let _ = &self.rows;
     }
+
+    /// A law of each table: rows that agree in all columns of a declared key are one.
+    pub fn has_keys(&self)
+        ensures { HasKeys self.now }
+    {
+        let _ = &self.rows;
+    }
 }
 
 /// The law of `has_texts` for tables that lie side by side.
@@ -113,5 +121,14 @@ pub fn have_texts(tables: &[Table])
 {
     for table in tables {
         table.has_texts();
+    }
+}
+
+/// The law of `has_keys` for tables that lie side by side.
+pub fn have_keys(tables: &[Table])
+    ensures { All HasKeys tables.now }
+{
+    for table in tables {
+        table.has_keys();
     }
 }

@@ -52,12 +52,15 @@ more_sides sides more (states.Identify a us) w =
     record { some = w.some; few = w.few; differ = w.differ; attributes = λ u m. let a = w.attributes u m in (a.0, kept_place sides more u.0 (Value a.0) a.1) }
 
 -- no line
-pub none_kept : AreLinesKept nothing
-none_kept = record {
+pub nothing_kept : (classes links : List (List ℕ)) (sides : List Side) → AreLinesKept (record { classes = classes; links = links; sides = sides; lines = [] })
+nothing_kept classes links sides = record {
   within = λ line m. elim m [ ];
   sorted = λ line m. elim m [ ];
   free = λ p line other m. elim m [ ];
 }
+
+pub none_kept : AreLinesKept nothing
+none_kept = nothing_kept [] [] []
 
 pub one_more_class : (classes links : List (List ℕ)) (sides : List Side) (lines : List Statement) (name : List ℕ) →
     AreLinesKept (record { classes = classes; links = links; sides = sides; lines = lines }) → AreLinesKept (record { classes = classes ++ name ∷ []; links = links; sides = sides; lines = lines })

@@ -21,7 +21,7 @@ use Rattle.uml_model.specs.Bounds.{AreFunctionalFree}
 use Rattle.uml_model.specs.Kept.{IsLineSorted, AreLinesSorted, Widens, AreLinesFree, AreLinesKept}
 use Rattle.uml_model.specs.Rules.{Known, bounds, nothing}
 use Rattle.uml_model.specs.Sorts.{HasSide, IsAxiomSorted, IsConstraintSorted, AreLinksSorted, IsModel}
-use Rattle.uml_model.proofs.Keeping.{none_kept}
+use Rattle.uml_model.proofs.Keeping.{none_kept, nothing_kept}
 use Rattle.uml_model.proofs.Bounds.{from_lines, of_when, two_whens, axioms_within, constraints_within}
 
 associations : (sides : List Side) (q : LinkId) (d : Dir) (p : LinkId) → HasSide sides q Object × HasSide sides p Object → AreLinksSorted sides q d p
@@ -149,6 +149,11 @@ kept_model s c l e a k w = record {
   axioms_sorted = λ ax m. let r = from_lines axioms_of_line ax s.lines m in line_axioms s.sides r.0 ax (w.sorted r.0 r.1) r.2;
   constraints_sorted = λ x m. let r = from_lines constraints_of_line x s.lines m in line_constraints s.sides r.0 x (w.sorted r.0 r.1) r.2;
 }
+
+pub named_model : (s : Known) → s.lines ≡ [] → length s.classes ≤ 400 → length s.links ≤ 600 → length s.sides ≡ length s.links → IsModel s
+named_model s none c l e =
+    let same : record { classes = s.classes; links = s.links; sides = s.sides; lines = [] } ≡ s = ap (λ lines. record { classes = s.classes; links = s.links; sides = s.sides; lines = lines }) (sym none) in
+    subst IsModel same (kept_model (record { classes = s.classes; links = s.links; sides = s.sides; lines = [] }) c l e (omega arith) (omega arith) (nothing_kept s.classes s.links s.sides))
 
 pub no_model : (s : Known) → s ≡ nothing → IsModel s
 no_model s is = subst IsModel (sym is) (kept_model nothing (omega arith) (omega arith) refl (omega arith) (omega arith) none_kept)

@@ -4,15 +4,15 @@ use Rattle.std.specs.List.{list_any, slice_get}
 use Rattle.std.specs.Str.{bytes_eq}
 use Rattle.std.proofs.lemmas.List.Quantifiers.{position-Some}
 use Rattle.std.proofs.lemmas.Slice.Eq.{bytes_eq-Decides}
-use Rattle.line_lexer.specs.Judging.{has_twice}
+use Rattle.line_lexer.specs.Judging.{has_twice, or_zero}
 use Rattle.vocabulary.specs.declared.ids.LinkId.{LinkId}
 use Rattle.vocabulary.specs.declared.ids.Side.{Side}
 use Rattle.vocabulary.specs.declared.ids.Side.TheVariants.{Object, Value}
 use Rattle.vocabulary.specs.declared.ids.ValueKind.{ValueKind}
 use Rattle.vocabulary.specs.declared.ids.ValueKind.TheVariants.{Text, Int, Bool as Boolean, Time}
-use Rattle.vocabulary.specs.Lists.{In, here, there}
+use Rattle.vocabulary.specs.Lists.{In}
 use Rattle.vocabulary.specs.Texts.{number_of}
-use Rattle.uml_model.specs.Rules.{Known, is_class, class_of, link_of, or_zero, side_named, is_object, is_value, is_association, is_attribute, are_of_one_kind, same_kind}
+use Rattle.uml_model.specs.Rules.{Known, is_class, class_of, link_of, side_named, is_object, is_value, is_association, is_attribute, are_of_one_kind, same_kind}
 use Rattle.uml_model.specs.Sorts.{HasSide, AreDifferent}
 use Rattle.uml_model.proofs.Lists.{neither, none_of, item_of_map}
 use Rattle.uml_model.proofs.Numbering.{numbered}

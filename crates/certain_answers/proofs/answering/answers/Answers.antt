@@ -1,25 +1,33 @@
 -- By `Certain`.
-use Rattle.std.proofs.Common.{All, subst, sym}
+use Rattle.std.proofs.Common.{All, sym, subst}
 use Rattle.vocabulary.specs.Lists.{IsListOf}
 use Rattle.queries.specs.Order.{tuple_cmp}
-use Rattle.certain_semantics.specs.Certain.{IsCertain}
+use Rattle.fold_rewriting.specs.Listing.{GiveCertain}
 use Rattle.mapping_facts.specs.Facts.{mapped_facts}
-use Rattle.certain_answers.specs.Collected.{CanUnfold}
-use Rattle.certain_answers.proofs.Certain.{images_certain, kept_unfold}
-use Rattle.certain_answers.proofs.Known.{mapped_known}
+use Rattle.query_images.specs.Images.{CanUnfold, IsImageOfOne}
+use Rattle.certain_answers.specs.Lean.{AllLean}
+use Rattle.certain_answers.proofs.Certain.{answers_certain, kept_unfold}
 use Rattle.certain_answers.proofs.answering.answers.Goals as goal
 
-pub images-requires-clause-queries : goal.images-requires-clause-queries
-images-requires-clause-queries c =
-    subst (All CanUnfold) (sym c.items.ensures)
-    (kept_unfold c.args.query.now c.in_ok-members.members c.in_ok-kept.kept c.requires.known c.requires.stands c.requires.few c.in_ok-members.ensures.shape c.in_ok-kept.ensures.among)
+pub union_images-requires-clause-queries : goal.union_images-requires-clause-queries
+union_images-requires-clause-queries c =
+    let lean : AllLean c.downs-downs.result.now.axioms c.in_ok-folds.folds c.in_ok-leans.leans = subst (λ qs. AllLean c.downs-downs.result.now.axioms qs c.in_ok-leans.leans) c.items.ensures c.in_ok-leans.ensures in
+    subst (All CanUnfold) (sym c.items-2.ensures)
+    (kept_unfold c.downs-downs.result.now.axioms c.args.query.now c.in_ok-folds.folds c.in_ok-leans.leans c.in_ok-kept.kept c.requires.known c.requires.stands c.requires.few c.in_ok-folds.ensures.shape lean c.in_ok-kept.ensures.among)
 
 pub returns-clause-answers : goal.returns-clause-answers
 returns-clause-answers c =
-    let axioms = c.args.tbox.now.axioms in
-    let facts = mapped_facts c.args.mappings.now c.args.tables.now in
-    let given = c.items.result.now in
-    subst (IsListOf tuple_cmp (IsCertain axioms facts c.args.query.now)) (sym c.from_vec.ensures)
-    (images_certain axioms facts c.args.query.now c.in_ok-members.members c.in_ok-kept.kept given c.in_ok-found.found.items c.in_ok-tuples.tuples.items c.items.ensures
-    (mapped_known c.args.mappings.now c.args.tables.now c.requires.fit) c.requires.known c.requires.stands
-    c.in_ok-members.ensures.answers c.in_ok-kept.ensures.images c.in_ok-found.ensures c.in_ok-tuples.ensures)
+    let s = c.args.specification.now in
+    let q = c.args.query.now in
+    let folds = c.in_ok-folds.folds in
+    let leans = c.in_ok-leans.leans in
+    let tuples = c.in_ok-tuples.tuples in
+    let further = c.further.result.now in
+    let tables = c.args.tables.now in
+    let gives : GiveCertain s.axioms q folds = subst (λ axioms. GiveCertain axioms q folds) c.downs-downs.ensures.axioms c.in_ok-folds.ensures.answers in
+    let here : AllLean c.downs-downs.result.now.axioms folds leans = subst (λ qs. AllLean c.downs-downs.result.now.axioms qs leans) c.items.ensures c.in_ok-leans.ensures in
+    let lean : AllLean s.axioms folds leans = subst (λ axioms. AllLean axioms folds leans) c.downs-downs.ensures.axioms here in
+    let list : IsListOf tuple_cmp (IsImageOfOne (mapped_facts further tables) c.in_ok-kept.kept) tuples =
+    subst (λ qs. IsListOf tuple_cmp (IsImageOfOne (mapped_facts further tables) qs) tuples) c.items-2.ensures c.in_ok-tuples.ensures in
+    answers_certain s.axioms s.mappings further c.further.ensures.given_fit c.further.ensures.known tables c.derived-2.ensures c.derived.ensures c.known_come_by_chains.ensures c.known_have_the_chase.ensures c.known_hold_their_known.ensures
+    q folds leans c.in_ok-kept.kept c.requires.known c.requires.stands gives lean c.in_ok-kept.ensures.images tuples list

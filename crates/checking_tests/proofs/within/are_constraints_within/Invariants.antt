@@ -6,4 +6,4 @@ use Rattle.dllite_axioms.specs.Within.{IsConstraintWithin}
 use Rattle.checking_tests.proofs.within.are_constraints_within.Given as goal
 
 abbrev pub invariant-loop-constraint : goal.invariant-loop-constraint
-invariant-loop-constraint l = (k : Constraint) → In k (take l.constraint-index l.constraints) → IsConstraintWithin 400 600 k
+invariant-loop-constraint l = (k : Constraint) → In k (take l.constraint-index l.constraints) → IsConstraintWithin 10 10 k

@@ -2,8 +2,8 @@
 use Rattle.std.proofs.Common.{take}
 use Rattle.vocabulary.specs.Lists.{In}
 use Rattle.mapping_facts.specs.declared.mapping.Mapping.{Mapping}
-use Rattle.mapping_saturation.specs.Saturation.{AreTargetsWithin}
+use Rattle.mapping_facts.specs.Within.{AreTargetsWithin}
 use Rattle.checking_tests.proofs.within.are_targets_within.Given as goal
 
 abbrev pub invariant-loop-mapping : goal.invariant-loop-mapping
-invariant-loop-mapping l = (m : Mapping) → In m (take l.mapping-index l.mappings) → AreTargetsWithin 400 600 m.targets
+invariant-loop-mapping l = (m : Mapping) → In m (take l.mapping-index l.mappings) → AreTargetsWithin 10 10 m.targets

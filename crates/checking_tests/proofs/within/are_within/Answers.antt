@@ -6,5 +6,5 @@ use Rattle.checking_tests.proofs.within.are_within.Goals as goal
 pub loop-axiom-preserved : goal.loop-axiom-preserved
 loop-axiom-preserved c = λ a m. elim (in_taken _ _ _ c.loop-axiom-test.true m) [
   | inl h ↦ c.loop-axiom.invariant a h
-  | inr e ↦ subst (IsAxiomWithin 400 600) e (c.is_axiom_within.ensures c.if-not-is_axiom_within.false)
+  | inr e ↦ subst (IsAxiomWithin 10 10) e (c.is_axiom_within.ensures c.if-not-is_axiom_within.false)
 ]

@@ -15,20 +15,20 @@ by_values-requires-clause-within c =
     let named = sym (subst (λ cs. Some c.in-Some.constraint.now ≡ item cs c.args.number) c.constraints.ensures c.in-Some.ensures) in
     let listed = item_in c.args.tbox.now.constraints c.args.number c.in-Some.constraint.now named in
     let same : c.in-Some.constraint.now ≡ Identified c.in-Identified.class c.items.result.now = c.in-Identified.is ∙ ap (Identified c.in-Identified.class) (sym c.items.ensures) in
-    subst (λ h. IsConstraintWithin h.classes h.links (Identified c.in-Identified.class c.items.result.now)) (sym c.requires.prepared.axioms) (subst (IsConstraintWithin 400 600) same (c.requires.constraints c.in-Some.constraint.now listed))
+    subst (IsConstraintWithin c.args.prepared.now.downs.classes c.args.prepared.now.downs.links) same (c.requires.constraints c.in-Some.constraint.now listed)
 
 pub by_values-requires-clause-attributes : goal.by_values-requires-clause-attributes
 by_values-requires-clause-attributes c =
     let named = sym (subst (λ cs. Some c.in-Some.constraint.now ≡ item cs c.args.number) c.constraints.ensures c.in-Some.ensures) in
     let listed = item_in c.args.tbox.now.constraints c.args.number c.in-Some.constraint.now named in
     let same : c.in-Some.constraint.now ≡ Identified c.in-Identified.class c.items.result.now = c.in-Identified.is ∙ ap (Identified c.in-Identified.class) (sym c.items.ensures) in
-    subst (λ h. AreAttributes h.axioms c.items.result.now) (sym c.requires.prepared.axioms) (subst (IsCheckable c.args.tbox.now.axioms) same (c.requires.checkable c.in-Some.constraint.now listed))
+    subst (λ axs. AreAttributes axs c.items.result.now) (sym c.requires.prepared.axioms) (subst (IsCheckable c.args.tbox.now.axioms) same (c.requires.checkable c.in-Some.constraint.now listed))
 
 pub by_values-requires-clause-saturated : goal.by_values-requires-clause-saturated
 by_values-requires-clause-saturated c =
     let named = sym (subst (λ cs. Some c.in-Some.constraint.now ≡ item cs c.args.number) c.constraints.ensures c.in-Some.ensures) in
     let listed = subst (λ k. In k c.args.tbox.now.constraints) c.in-Identified.is (item_in c.args.tbox.now.constraints c.args.number c.in-Some.constraint.now named) in
-    subst (λ h. KnowAll h.axioms c.args.mappings.now c.args.prepared.now.saturated) (sym c.requires.prepared.axioms) (c.requires.prepared.saturated c.in-Identified.class c.in-Identified.links listed)
+    subst (λ axs. KnowAll axs c.args.mappings.now c.args.prepared.now.saturated) (sym c.requires.prepared.axioms) (c.requires.prepared.saturated c.in-Identified.class c.in-Identified.links listed)
 
 pub by_sources-requires : goal.by_sources-requires
 by_sources-requires c =
@@ -37,8 +37,8 @@ by_sources-requires c =
     record {
       fit = c.requires.fit;
       given = c.requires.prepared.given;
-      within = subst (λ h. IsConstraintWithin h.classes h.links c.in-Some.constraint.now) (sym c.requires.prepared.axioms) (c.requires.constraints c.in-Some.constraint.now listed);
-      exact = subst (λ h. HasExactSources h.axioms c.in-Some.constraint.now) (sym c.requires.prepared.axioms) (exact_or_identified c.args.tbox.now.axioms c.in-Some.constraint.now (c.requires.checkable c.in-Some.constraint.now listed) c.in_default-constraint.not-Identified);
+      within = c.requires.constraints c.in-Some.constraint.now listed;
+      exact = subst (λ axs. HasExactSources axs c.in-Some.constraint.now) (sym c.requires.prepared.axioms) (exact_or_identified c.args.tbox.now.axioms c.in-Some.constraint.now (c.requires.checkable c.in-Some.constraint.now listed) c.in_default-constraint.not-Identified);
     }
 
 pub returns-in_default : goal.returns-in_default

@@ -7,6 +7,6 @@ use Rattle.log_assembly.proofs.asking.ask_events.Given as goal
 
 abbrev pub invariant-loop-event : goal.invariant-loop-event
 invariant-loop-event l = record {
-  asked : Pairwise (IsEventAsked (IsCertain l.tbox.axioms (mapped_facts l.mappings l.tables))) (take l.event-index l.events) l.asked;
-  narrow : HasOne (EventIsTooWide l.tbox.axioms) (take l.event-index l.events) → ⊥;
+  asked : Pairwise (IsEventAsked (IsCertain l.specification.axioms (mapped_facts l.specification.mappings l.tables))) (take l.event-index l.events) l.asked;
+  narrow : HasOne (EventIsTooWide l.specification.axioms) (take l.event-index l.events) → ⊥;
 }

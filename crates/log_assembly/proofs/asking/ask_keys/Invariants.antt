@@ -9,6 +9,6 @@ use Rattle.log_assembly.proofs.asking.ask_keys.Given as goal
 
 abbrev pub invariant-loop-key : goal.invariant-loop-key
 invariant-loop-key l = record {
-  answers : Pairwise (λ (key : KeyNote) (a : Answers). AreAnswersOf (IsCertain l.tbox.axioms (mapped_facts l.mappings l.tables)) (query_of key.source) a) (take l.key-index l.keys) l.asked;
-  narrow : HasOne (KeyIsTooWide l.tbox.axioms) (take l.key-index l.keys) → ⊥;
+  answers : Pairwise (λ (key : KeyNote) (a : Answers). AreAnswersOf (IsCertain l.specification.axioms (mapped_facts l.specification.mappings l.tables)) (query_of key.source) a) (take l.key-index l.keys) l.asked;
+  narrow : HasOne (KeyIsTooWide l.specification.axioms) (take l.key-index l.keys) → ⊥;
 }

@@ -5,8 +5,7 @@ use Rattle.std.specs.List.Sorted.{IsPartitionedBy, IsPartitionPoint}
 use Rattle.std.proofs.lemmas.List.{take_rest}
 use Rattle.std.proofs.lemmas.List.Sorted.{IsPartitionPoint-from_clause}
 use Rattle.vocabulary.specs.Texts.{text_cmp}
-use Rattle.log_assembly.specs.declared.occurrences.Occurrence.{Occurrence}
-use Rattle.log_assembly.specs.Gathered.{occurrence_cmp}
+use Rattle.log_assembly.specs.Gathered.{Occurrence, occurrence_cmp}
 use Rattle.log_assembly.proofs.Occurring.{case_rises}
 use Rattle.log_assembly.proofs.Runs.{parted_before, parted_upto, run_is}
 use Rattle.log_assembly.proofs.occurrences.at_case.Goals as goal

@@ -1,5 +1,5 @@
 use Rattle.mapping_language.specs.Tables.{table_number}
-use Rattle.mapping_language.specs.Mappings.{or_zero}
+use Rattle.line_lexer.specs.Judging.{or_zero}
 use Rattle.mapping_language.proofs.Lists.{mapped_step}
 use Rattle.mapping_language.proofs.mapping_build.tables_of.Goals as goal
 

@@ -1,6 +1,6 @@
 use Rattle.std.proofs.Common.{◌≡◌, map, take}
 use Rattle.mapping_language.specs.Tables.{table_number}
-use Rattle.mapping_language.specs.Mappings.{or_zero}
+use Rattle.line_lexer.specs.Judging.{or_zero}
 use Rattle.mapping_language.proofs.mapping_build.tables_of.Given as goal
 
 abbrev pub invariant-loop-from : goal.invariant-loop-from

@@ -4,7 +4,7 @@ use Rattle.std.proofs.lemmas.List.{map-append}
 use Rattle.line_lexer.specs.Tokens.{seen}
 use Rattle.mapping_language.specs.Grammar.{condition}
 use Rattle.mapping_language.specs.Shown.{condition_shown}
-use Rattle.mapping_language.proofs.Ahead.{begins, goes_on, ends, breaks, runs_out}
+use Rattle.line_lexer.proofs.Ahead.{begins, goes_on, ends, breaks, runs_out}
 use Rattle.mapping_language.proofs.mapping_grammar.joined_conditions.Goals as goal
 
 pub loop-i-init : goal.loop-i-init

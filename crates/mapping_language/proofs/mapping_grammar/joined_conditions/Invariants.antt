@@ -1,8 +1,9 @@
 use Rattle.std.proofs.Common.{◌≡◌, ◌-◌, length, map, codes}
 use Rattle.line_lexer.specs.Tokens.{seen}
-use Rattle.mapping_language.specs.Grammar.{at_most, separated, condition}
+use Rattle.line_lexer.specs.Separated.{at_most, separated}
+use Rattle.mapping_language.specs.Grammar.{condition}
 use Rattle.mapping_language.specs.Shown.{condition_shown}
-use Rattle.mapping_language.proofs.Ahead.{ahead}
+use Rattle.line_lexer.proofs.Ahead.{ahead}
 use Rattle.mapping_language.proofs.mapping_grammar.joined_conditions.Given as goal
 
 abbrev pub invariant-loop-i : goal.invariant-loop-i

@@ -4,7 +4,7 @@ use Rattle.std.proofs.lemmas.List.{map-append}
 use Rattle.line_lexer.specs.Tokens.{seen}
 use Rattle.mapping_language.specs.Grammar.{source}
 use Rattle.mapping_language.specs.Shown.{source_shown}
-use Rattle.mapping_language.proofs.Ahead.{begins, goes_on, ends, breaks, runs_out}
+use Rattle.line_lexer.proofs.Ahead.{begins, goes_on, ends, breaks, runs_out}
 use Rattle.mapping_language.proofs.mapping_grammar.sources.Goals as goal
 
 pub loop-i-init : goal.loop-i-init

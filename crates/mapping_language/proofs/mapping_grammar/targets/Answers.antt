@@ -4,7 +4,7 @@ use Rattle.std.proofs.lemmas.List.{map-append}
 use Rattle.line_lexer.specs.Tokens.{seen}
 use Rattle.mapping_language.specs.Grammar.{target}
 use Rattle.mapping_language.specs.Shown.{target_shown}
-use Rattle.mapping_language.proofs.Ahead.{begins, goes_on, ends, breaks, runs_out}
+use Rattle.line_lexer.proofs.Ahead.{begins, goes_on, ends, breaks, runs_out}
 use Rattle.mapping_language.proofs.mapping_grammar.targets.Goals as goal
 
 pub loop-i-init : goal.loop-i-init

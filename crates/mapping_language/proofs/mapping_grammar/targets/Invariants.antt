@@ -1,8 +1,9 @@
 use Rattle.std.proofs.Common.{◌≡◌, ◌-◌, length, map, codes}
 use Rattle.line_lexer.specs.Tokens.{seen}
-use Rattle.mapping_language.specs.Grammar.{at_most, separated, target}
+use Rattle.line_lexer.specs.Separated.{at_most, separated}
+use Rattle.mapping_language.specs.Grammar.{target}
 use Rattle.mapping_language.specs.Shown.{target_shown}
-use Rattle.mapping_language.proofs.Ahead.{ahead}
+use Rattle.line_lexer.proofs.Ahead.{ahead}
 use Rattle.mapping_language.proofs.mapping_grammar.targets.Given as goal
 
 abbrev pub invariant-loop-i : goal.invariant-loop-i

@@ -1,9 +1,9 @@
 -- By the command that the words name.
 use Rattle.std.proofs.Common.{sym, ◌∙◌, Ok}
-use Rattle.onprom_core.specs.Commands.{Answer, Check, Extract, Make, Rewrite, Verify}
+use Rattle.onprom_core.specs.Commands.{Answer, Check, Contained, Extract, Lint, Make, Rewrite, Verify}
 use Rattle.onprom_core.proofs.MadeFiles.{made_end, made_works}
 use Rattle.onprom_core.proofs.Walks.{works_from}
-use Rattle.onprom_core.proofs.Words.{answer_named, check_named, extract_named, make_named, no_command, no_walk, none_named, rewrite_named, verify_named}
+use Rattle.onprom_core.proofs.Words.{answer_named, check_named, contained_named, extract_named, lint_named, make_named, no_command, no_walk, none_named, rewrite_named, verify_named}
 use Rattle.onprom_core.proofs.commands.work.Goals as goal
 
 pub returns-then-is_extract-clause-told : goal.returns-then-is_extract-clause-told
@@ -39,6 +39,20 @@ returns-then-is_rewrite-clause-told g c =
     (rewrite_named c.args.words.now p.result.now q.result.now (sym c.is_verify.ensures ∙ c.if-is_verify.false) (sym c.is_answer.ensures ∙ c.if-is_answer.false)
     (sym c.is_rewrite.ensures ∙ c.if-is_rewrite.true) p.ensures q.ensures) c.rewrite.ensures.told
 
+pub returns-then-is_lint-clause-told : goal.returns-then-is_lint-clause-told
+returns-then-is_lint-clause-told g c =
+    let p = c.get-then-is_lint in
+    works_from (g.S.Shelf.held c.args.shelf.now) c.args.words.now (Lint p.result.now) c.lint.result
+    (lint_named c.args.words.now p.result.now (sym c.is_extract.ensures ∙ c.if-is_extract.false) (sym c.is_check.ensures ∙ c.if-is_check.false) (sym c.is_lint.ensures ∙ c.if-is_lint.true) p.ensures) c.lint.ensures.told
+
+pub returns-then-is_contained-clause-told : goal.returns-then-is_contained-clause-told
+returns-then-is_contained-clause-told g c =
+    let p = c.get-then-is_contained in
+    let q = c.get-then-is_contained-2 in
+    let r = c.get-then-is_contained-3 in
+    works_from (g.S.Shelf.held c.args.shelf.now) c.args.words.now (Contained p.result.now q.result.now r.result.now) c.contain.result
+    (contained_named c.args.words.now p.result.now q.result.now r.result.now (sym c.is_contained.ensures ∙ c.if-is_contained.true) p.ensures q.ensures r.ensures) c.contain.ensures.told
+
 pub returns-in-Some-clause-told : goal.returns-in-Some-clause-told
 returns-in-Some-clause-told g c =
     works_from (g.S.Shelf.held c.args.shelf.now) c.args.words.now (Make c.in-Some.docs c.get-in-Some.result.now) (Ok c.in_ok-making.field-0)
@@ -56,12 +70,28 @@ returns-in-Some-clause-made g c = λ make.
 pub returns-clause-told : goal.returns-clause-told
 returns-clause-told g c =
     no_walk (g.S.Shelf.held c.args.shelf.now) c.args.words.now c.in_ok-usage_line.field-0
-    (none_named c.args.words.now (sym c.is_extract.ensures ∙ c.if-is_extract.false) (sym c.is_check.ensures ∙ c.if-is_check.false) (sym c.is_verify.ensures ∙ c.if-is_verify.false)
-    (sym c.is_answer.ensures ∙ c.if-is_answer.false) (sym c.is_rewrite.ensures ∙ c.if-is_rewrite.false) (sym c.docs_named.ensures ∙ c.in_default.is))
+    (none_named c.args.words.now (record {
+      extract = sym c.is_extract.ensures ∙ c.if-is_extract.false;
+      check = sym c.is_check.ensures ∙ c.if-is_check.false;
+      verify = sym c.is_verify.ensures ∙ c.if-is_verify.false;
+      answer = sym c.is_answer.ensures ∙ c.if-is_answer.false;
+      rewrite = sym c.is_rewrite.ensures ∙ c.if-is_rewrite.false;
+      make = sym c.docs_named.ensures ∙ c.in_default.is;
+      lint = sym c.is_lint.ensures ∙ c.if-is_lint.false;
+      contained = sym c.is_contained.ensures ∙ c.if-is_contained.false;
+    }))
     c.in_ok-usage_line.ensures
 
 pub returns-clause-usage : goal.returns-clause-usage
 returns-clause-usage g c = λ usage.
     no_command c.args.words.now
-    (none_named c.args.words.now (sym c.is_extract.ensures ∙ c.if-is_extract.false) (sym c.is_check.ensures ∙ c.if-is_check.false) (sym c.is_verify.ensures ∙ c.if-is_verify.false)
-    (sym c.is_answer.ensures ∙ c.if-is_answer.false) (sym c.is_rewrite.ensures ∙ c.if-is_rewrite.false) (sym c.docs_named.ensures ∙ c.in_default.is))
+    (none_named c.args.words.now (record {
+      extract = sym c.is_extract.ensures ∙ c.if-is_extract.false;
+      check = sym c.is_check.ensures ∙ c.if-is_check.false;
+      verify = sym c.is_verify.ensures ∙ c.if-is_verify.false;
+      answer = sym c.is_answer.ensures ∙ c.if-is_answer.false;
+      rewrite = sym c.is_rewrite.ensures ∙ c.if-is_rewrite.false;
+      make = sym c.docs_named.ensures ∙ c.in_default.is;
+      lint = sym c.is_lint.ensures ∙ c.if-is_lint.false;
+      contained = sym c.is_contained.ensures ∙ c.if-is_contained.false;
+    }))

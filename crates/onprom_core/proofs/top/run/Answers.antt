@@ -4,6 +4,7 @@ use Rattle.onprom_core.proofs.Headlines.{extracts_from, sound_from}
 use Rattle.onprom_core.proofs.Judging.{checks_from, checks_soundly_from, verifies_from, verifies_soundly_from}
 use Rattle.onprom_core.proofs.MadeFiles.{makes_from}
 use Rattle.onprom_core.proofs.Asking.{answers_from, rewrites_from}
+use Rattle.onprom_core.proofs.ModelRuns.{compares_from, compares_soundly_from, lints_from, lints_soundly_from}
 use Rattle.onprom_core.proofs.top.run.Goals as goal
 
 pub returns-in-Ok-clause-ends : goal.returns-in-Ok-clause-ends
@@ -105,4 +106,28 @@ returns-in-Ok-clause-checks_soundly g c =
 pub returns-in-Ok-clause-verifies_soundly : goal.returns-in-Ok-clause-verifies_soundly
 returns-in-Ok-clause-verifies_soundly g c =
     verifies_soundly_from c.args.words.now (g.O.Sink.written c.args.out.now) (g.O.Sink.written c.deliver.new.out) (g.R.Sink.written c.args.report.now) (g.R.Sink.written c.deliver.new.report)
+    c.deliver.result (shown c.in-Ok.decided) (g.S.Shelf.held c.args.shelf.now) c.in-Ok.ensures.job c.deliver.ensures.delivered
+
+pub returns-in-Ok-clause-lints : goal.returns-in-Ok-clause-lints
+returns-in-Ok-clause-lints g c =
+    lints_from c.args.words.now (g.S.Shelf.faults c.args.shelf.now) (g.S.Shelf.faults c.decide.new.shelf)
+    (g.O.Sink.faults c.args.out.now) (g.O.Sink.faults c.deliver.new.out) (g.R.Sink.faults c.args.report.now) (g.R.Sink.faults c.deliver.new.report)
+    (g.O.Sink.written c.args.out.now) (g.O.Sink.written c.deliver.new.out) (g.R.Sink.written c.args.report.now) (g.R.Sink.written c.deliver.new.report)
+    c.deliver.result (g.S.Shelf.held c.args.shelf.now) (returns-in-Ok-clause-ends g c) (returns-in-Ok-clause-complete g c)
+
+pub returns-in-Ok-clause-compares : goal.returns-in-Ok-clause-compares
+returns-in-Ok-clause-compares g c =
+    compares_from c.args.words.now (g.S.Shelf.faults c.args.shelf.now) (g.S.Shelf.faults c.decide.new.shelf)
+    (g.O.Sink.faults c.args.out.now) (g.O.Sink.faults c.deliver.new.out) (g.R.Sink.faults c.args.report.now) (g.R.Sink.faults c.deliver.new.report)
+    (g.O.Sink.written c.args.out.now) (g.O.Sink.written c.deliver.new.out) (g.R.Sink.written c.args.report.now) (g.R.Sink.written c.deliver.new.report)
+    c.deliver.result (g.S.Shelf.held c.args.shelf.now) (returns-in-Ok-clause-ends g c) (returns-in-Ok-clause-complete g c)
+
+pub returns-in-Ok-clause-lints_soundly : goal.returns-in-Ok-clause-lints_soundly
+returns-in-Ok-clause-lints_soundly g c =
+    lints_soundly_from c.args.words.now (g.O.Sink.written c.args.out.now) (g.O.Sink.written c.deliver.new.out) (g.R.Sink.written c.args.report.now) (g.R.Sink.written c.deliver.new.report)
+    c.deliver.result (shown c.in-Ok.decided) (g.S.Shelf.held c.args.shelf.now) c.in-Ok.ensures.job c.deliver.ensures.delivered
+
+pub returns-in-Ok-clause-compares_soundly : goal.returns-in-Ok-clause-compares_soundly
+returns-in-Ok-clause-compares_soundly g c =
+    compares_soundly_from c.args.words.now (g.O.Sink.written c.args.out.now) (g.O.Sink.written c.deliver.new.out) (g.R.Sink.written c.args.report.now) (g.R.Sink.written c.deliver.new.report)
     c.deliver.result (shown c.in-Ok.decided) (g.S.Shelf.held c.args.shelf.now) c.in-Ok.ensures.job c.deliver.ensures.delivered

@@ -33,10 +33,12 @@ returns-clause-read c =
     let push = pushed c.args.decl.now (fields_of c.args.header.now) c.args.places.now (c.args.rows.now.count + 1) (fields_of c.args.fields.now) c.args.rows.now.cells c.push_cells.new.cells c.requires.places c.in_ok-push_cells.ensures.put c.in_ok-push_cells.ensures.long in
     let after : c.number_keys.new.indexes ≡ map (λ (key : List ColId). key_texts key (rows_in c.args.decl.now c.args.rows.now.count c.push_cells.new.cells ++ (row_at (length c.args.decl.now.columns) c.args.rows.now.count c.push_cells.new.cells.cells ∷ []))) c.args.decl.now.keys =
     rw (c.len.ensures, c.items.ensures) at c.in_ok-number_keys.ensures.indexes in
+    let right : check_keys (rows_in c.args.decl.now c.args.rows.now.count c.push_cells.new.cells) (c.args.rows.now.count + 1) (row_at (length c.args.decl.now.columns) c.args.rows.now.count c.push_cells.new.cells.cells) c.args.decl.now.keys ≡ Ok (row_at (length c.args.decl.now.columns) c.args.rows.now.count c.push_cells.new.cells.cells) =
+    rw (c.len.ensures, c.items.ensures) at c.in_ok-number_keys.ensures.right in
     let long = same_keys c.args.decl.now c.args.rows.now.count c.args.rows.now.cells c.args.rows.now.indexes.items c.number_keys.new.indexes _ c.requires.read after in
     let items = written_back c.args.rows.now.indexes.items c.number_keys.new.indexes c.args.rows.now.indexes.len c.args.rows.now.indexes.ok.0 long in
     subst (λ (indexes : List (List (List ℕ))). AreRead c.args.decl.now (c.args.rows.now.count + 1) c.push_cells.new.cells indexes) (sym items)
-    (read_more c.args.decl.now (fields_of c.args.header.now) c.args.rows.now.count (fields_of c.args.fields.now) c.args.rows.now.cells c.push_cells.new.cells c.args.rows.now.indexes.items c.number_keys.new.indexes push c.requires.read c.requires.room after)
+    (read_more c.args.decl.now (fields_of c.args.header.now) c.args.rows.now.count (fields_of c.args.fields.now) c.args.rows.now.cells c.push_cells.new.cells c.args.rows.now.indexes.items c.number_keys.new.indexes push c.requires.read c.requires.room right after)
 
 pub returns-clause-added : goal.returns-clause-added
 returns-clause-added c =

@@ -1,7 +1,0 @@
-use Rattle.std.proofs.Common.{◌∙◌}
-use Rattle.certain_answers.proofs.Gained.{all_tuples}
-use Rattle.certain_answers.proofs.collecting.add_row_query.Goals as goal
-
-pub returns : goal.returns
-returns c =
-    all_tuples c.args.tables.now c.args.query.now c.items-rows-items.result.now c.loop-rows.rows-index c.args.out.now.items c.loop-rows.out.items c.loop-rows-test.false (c.items-rows-items.ensures ∙ c.in_ok-found.ensures.exact) c.loop-rows.invariant

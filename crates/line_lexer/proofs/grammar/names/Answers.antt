@@ -1,0 +1,26 @@
+use Rattle.std.proofs.Common.{length, map, ap, is_ok}
+use Rattle.std.proofs.ResultArms.{chosen}
+use Rattle.std.proofs.lemmas.List.{map-append}
+use Rattle.line_lexer.specs.Tokens.{seen}
+use Rattle.line_lexer.specs.Grammar.{name}
+use Rattle.line_lexer.proofs.Ahead.{begins, goes_on, ends, breaks, runs_out}
+use Rattle.line_lexer.proofs.grammar.names.Goals as goal
+
+pub loop-i-init : goal.loop-i-init
+loop-i-init c = rw c.new-found.ensures.items (begins _ name seen c.args.tokens.now)
+
+pub loop-i-preserved : goal.loop-i-preserved
+loop-i-preserved c =
+    let pushed = chosen _ _ _ _ c.push.ensures.items (ap is_ok c.in_ok-push.was) in
+    rw (pushed, map-append) (goes_on _ name _ (map (λ c. c.now) c.loop-i.found.items) (length c.args.tokens.now) c.loop-i._i (map seen c.loop-i.left.tokens.now) c.loop-i.invariant c.loop-i-test.true c.in-Some.next.now (map seen c.in-Some.behind.now) (map seen c.in-Some-expect.rest.now) c.in-Some.ensures c.in-Some-expect.ensures)
+
+pub returns-in_default-expect-clause-names : goal.returns-in_default-expect-clause-names
+returns-in_default-expect-clause-names c =
+    let pushed = chosen _ _ _ _ c.push.ensures.items (ap is_ok c.in_ok-push.was) in
+    rw (pushed, map-append) (ends _ name _ (map (λ c. c.now) c.loop-i.found.items) (length c.args.tokens.now) c.loop-i._i (map seen c.loop-i.left.tokens.now) c.loop-i.invariant c.loop-i-test.true c.in-Some.next.now (map seen c.in-Some.behind.now) c.in-Some.ensures c.in_default-expect.ensures)
+
+pub returns-in_default-clause-names : goal.returns-in_default-clause-names
+returns-in_default-clause-names c = breaks _ name _ (map (λ c. c.now) c.loop-i.found.items) (length c.args.tokens.now) c.loop-i._i (map seen c.loop-i.left.tokens.now) c.loop-i.invariant c.loop-i-test.true c.in_default.ensures
+
+pub returns-clause-names : goal.returns-clause-names
+returns-clause-names c = runs_out _ name _ (map (λ c. c.now) c.loop-i.found.items) (length c.args.tokens.now) c.loop-i._i (map seen c.loop-i.left.tokens.now) c.loop-i.invariant c.loop-i-test.false

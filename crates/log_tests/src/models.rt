@@ -1,0 +1,198 @@
+//! What a model tells: `lint` and `contained`.
+//!
+//! Which proof is written is free. So steps are left out of what is compared, and the numbers behind `clash`.
+use crate::cases::{holds, repeated, shelf_of, told};
+use std::alloc::{AllocError, Global};
+use std::test::Fail;
+
+// Each A has a B as its partner, each B is a C, and nothing is both.
+const CLASHING: &str = "onprom 1
+table t \"t.csv\"
+column t a text
+class A
+class B
+class C
+disjoint B C
+assoc p A * -> B 1..*
+sub B C
+map m from t x then A(iri \"http://e/a/{x.a}\")
+";
+
+// Each review is about a paper.
+const REVIEWS: &str = "onprom 1
+table r \"r.csv\"
+column r id text
+class Review
+class Paper
+assoc about Review * -> Paper 1
+map m from r a then Review(iri \"http://e/r/{a.id}\")
+query some (x) where about(x, y)
+query which (x, y) where about(x, y)
+query two (x) where about(x, y), Paper(y)
+query three (x) where about(x, y), Paper(y), Review(y)
+";
+
+fn is_step(line: &str) -> bool {
+    line.starts_with(|c: char| c.is_ascii_digit()) && line.contains(' ')
+}
+
+// A line without the numbers of a clash.
+fn front_of(line: &str) -> &str {
+    match line.starts_with("clash ") {
+        true => "clash",
+        false => line,
+    }
+}
+
+fn shape_of(alloc: Global, told: &str) -> Result<String, AllocError> {
+    let mut shape = String::new(alloc);
+    for line in told.lines().filter(|line| !is_step(line)) {
+        shape.push_str(front_of(line))?;
+        shape.push_str("\n")?;
+    }
+    Ok(shape)
+}
+
+// Whether a run over these files tells this, but for what is free.
+fn shows(alloc: Global, files: &[(&str, &str)], case: &str) -> Result<bool, AllocError> {
+    match case.split_once("\n=> ") {
+        Some((words, want)) => {
+            let mut shelf = shelf_of(alloc, "", files)?;
+            let told = told(alloc, &mut shelf, words)?;
+            let shape = shape_of(alloc, str::from_utf8(told.slice()).unwrap_or(""))?;
+            Ok(shape.as_str().strip_suffix('\n') == Some(want))
+        }
+        None => Ok(false),
+    }
+}
+
+const VOID: &str = "lint p
+=> 0
+void class A
+clash
+void class B
+clash
+void link p
+clash
+end
+--
+void 3";
+
+#[test]
+fn a_class_that_nothing_can_be_in_is_void(rt: HostRuntime) -> Result<(), Fail> {
+    assert!(rt; shows(rt.alloc(), &[("p", CLASHING)], VOID)?);
+    Ok(())
+}
+
+// No table is read.
+const OF_REVIEWS: &str = "lint p
+=> 0
+end
+--
+void 0
+~
+contained p some two
+=> 0
+contained by 2
+--
+contained 1
+~
+contained p two some
+=> 0
+contained by 2
+--
+contained 1
+~
+contained p which which
+=> 0
+contained by 1
+--
+contained 1
+~
+contained p some three
+=> 0
+not contained
+--
+contained 0
+~
+contained p three some
+=> 0
+contained by 2
+--
+contained 1
+~
+contained p which some
+=> 3
+--
+refused: query some: HeadWidth
+~
+contained p none nothing
+=> 3
+--
+refused: query none: Unknown
+~
+contained p some nothing
+=> 3
+--
+refused: query nothing: Unknown
+~
+lint q
+=> 4
+--
+absent: q";
+
+#[test]
+fn what_some_review_is_about_is_a_paper(rt: HostRuntime) -> Result<(), Fail> {
+    for case in OF_REVIEWS.split("\n~\n") {
+        assert!(rt; holds(rt.alloc(), &[("p", REVIEWS)], case)?, "{case}");
+    }
+    Ok(())
+}
+
+const NO_COMMANDS: &str = "lint\nlint p q\ncontained p q\ncontained p q r s\nwhy p q 1";
+
+const USAGE: &str = "2
+--
+usage: extract P | check P | verify P D | answer P Q | rewrite P Q | make N F | lint P | contained P Q Q
+";
+
+fn is_usage(alloc: Global, words: &str) -> Result<bool, AllocError> {
+    let mut shelf = shelf_of(alloc, "", &[("p", REVIEWS)])?;
+    Ok(told(alloc, &mut shelf, words)?.slice() == USAGE.as_bytes())
+}
+
+#[test]
+fn other_words_are_no_commands(rt: HostRuntime) -> Result<(), Fail> {
+    for words in NO_COMMANDS.lines() {
+        assert!(rt; is_usage(rt.alloc(), words)?, "{words}");
+    }
+    Ok(())
+}
+
+// Two classes with many below each, and two questions for a member of both.
+const WIDE: &str = "onprom 1
+class A
+class B
+[class A%
+sub A% A
+][class B%
+sub B% B
+]query v (x, y) where A(x), B(y)
+query w (x, y) where A(x), B(y)
+";
+
+const TOO_WIDE: &str = "contained p v w
+=> 8
+--
+limit: rewriting";
+
+fn is_limited(alloc: Global, below: u32) -> Result<bool, AllocError> {
+    let project = repeated(alloc, WIDE, &[below, below])?;
+    holds(alloc, &[("p", project.as_str())], TOO_WIDE)
+}
+
+#[test]
+fn more_than_four_thousand_rewritings_are_too_many(rt: HostRuntime) -> Result<(), Fail> {
+    assert!(rt; is_limited(rt.alloc(), 70)?);
+    Ok(())
+}

@@ -1,0 +1,10 @@
+pub mod Covering
+pub mod Deciding
+pub mod Found
+pub mod Freezing
+pub mod Marked
+pub mod Merging
+pub mod Renaming
+pub mod Samples
+pub mod Shown
+pub mod Single

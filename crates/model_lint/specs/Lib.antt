@@ -1,0 +1,4 @@
+pub mod Containment
+pub mod Laws
+pub mod Marks
+pub mod Voids
