@@ -222,8 +222,6 @@ make 18446744073709551617 doc.csv
 make doc.csv 5
 make 5 doc.csv x
 why p case 1
-lint p
-contained p case case
 help
 p";
 
