@@ -20,8 +20,8 @@ const B_TITLE: Place = Place {
     col: ColId(1),
 };
 
-// Two tables with a null title in each.
-fn two_tables(alloc: Global) -> Result<Vec<Table>, Fail> {
+/// Two tables with a null title in each.
+pub fn two_tables(alloc: Global) -> Result<Vec<Table>, Fail> {
     let mut tables = Vec::new(alloc);
     tables.push(titles(alloc, b"id,title\n1,x\n2,\n3,y\n")?)?;
     tables.push(titles(alloc, b"id,title\n7,y\n8,\n9,x\n10,x\n")?)?;

@@ -4,6 +4,8 @@
 #[cfg(test)]
 mod answers;
 #[cfg(test)]
+mod heading;
+#[cfg(test)]
 mod joining;
 #[cfg(test)]
 mod mapped;

@@ -4,21 +4,27 @@ ghost use Rattle.vocabulary.specs.Lists.{In};
 ghost use Rattle.mapping_facts.specs.Fits.{RowQueryFits};
 ghost use Rattle.mapping_facts.specs.RowQueries.{row_tuples};
 ghost use Rattle.join_engine.specs.Fronts.{IsFoundBehind};
+ghost use Rattle.join_engine.specs.Heads.{IsSome};
+ghost use Rattle.join_engine.specs.Orders.{IsReordering};
 ghost use Rattle.join_engine.specs.Ties.{ArePlanned};
 
-use crate::choosing::{Choice, next_rows, plan};
+use crate::choosing::{Plan, next_rows, plan_of};
 use crate::joining::{is_asked, is_cut};
+use crate::ordering::{Numbering, new_order};
+use crate::parting::settle_parts;
+use crate::reordering::pick;
 use mapping_facts::RowQuery;
 use source_tables::Table;
 use std::alloc::{AllocError, Global};
+use table_renumbering::renumber;
 use vocabulary::List;
 
 // Puts rows behind these, up to a tuple that is asked for, if there is one; else leaves them.
-fn find_behind(
+pub(crate) fn find_behind(
     alloc: Global,
     query: &RowQuery,
     tables: &[Table],
-    plan: &[Choice],
+    plan: &Plan,
     front: &mut Vec<u32>,
 ) -> Result<bool, AllocError>
     requires fits { RowQueryFits query.now }
@@ -33,9 +39,9 @@ fn find_behind(
     if depth == query.query.tables.len() {
         return is_asked(alloc, query, tables, front.as_slice());
     }
-    let rows = next_rows(&plan[depth], &query.query, tables, front.as_slice());
-    for row in rows {
-        front.push(*row)?;
+    let rows = next_rows(plan, &query.query, tables, front.as_slice());
+    for i in 0..rows.len() {
+        front.push(rows.at(i))?;
         if find_behind(alloc, query, tables, plan, front)? {
             return Ok(true);
         }
@@ -44,8 +50,45 @@ fn find_behind(
     Ok(false)
 }
 
-/// Some tuple that a row query asks for, `None` exactly where there is none. It looks no further than
-/// to the first, and goes by the same indexes as `join`.
+fn some_in_order(
+    alloc: Global,
+    query: &RowQuery,
+    tables: &[Table],
+) -> Result<Option<List<u32>>, AllocError>
+    requires { RowQueryFits query.now }
+    ensures { IfOk result (IsSome tables.now query.now) }
+{
+    let plan = plan_of(alloc, &query.query, tables)?;
+    let mut front = Vec::new(alloc);
+    if !settle_parts(alloc, query, tables, &plan, &mut front)? {
+        return Ok(None);
+    }
+    if !find_behind(alloc, query, tables, &plan, &mut front)? {
+        return Ok(None);
+    }
+    Ok(Some(List::from_vec(front)))
+}
+
+fn some_reordered(
+    alloc: Global,
+    query: &RowQuery,
+    numbering: &Numbering,
+    tables: &[Table],
+) -> Result<Option<List<u32>>, AllocError>
+    requires fits { RowQueryFits query.now }
+    requires numbering { IsReordering (length query.now.query.tables) numbering.now.order.items numbering.now.places.items }
+    ensures { IfOk result (IsSome tables.now query.now) }
+{
+    let places = numbering.places.as_slice();
+    let moved = renumber(alloc, query, numbering.order.as_slice(), places)?;
+    match some_in_order(alloc, &moved, tables)? {
+        Some(tuple) => Ok(Some(pick(alloc, places, tuple.items())?)),
+        None => Ok(None),
+    }
+}
+
+/// Some tuple that a row query asks for, `None` exactly where there is none. It looks no further than to the first:
+/// what it takes is a pass over the rows for each table and index, and the fronts that it tries.
 pub fn some_tuple(
     alloc: Global,
     query: &RowQuery,
@@ -54,10 +97,8 @@ pub fn some_tuple(
     requires fits { RowQueryFits query.now }
     ensures { IfOk result (λ found. MatchOption found (row_tuples tables.now query.now ≡ []) (λ tuple. In tuple (row_tuples tables.now query.now))) }
 {
-    let plan = plan(alloc, &query.query, tables)?;
-    let mut front = Vec::new(alloc);
-    if find_behind(alloc, query, tables, &plan, &mut front)? {
-        return Ok(Some(List::from_vec(front)));
+    match new_order(alloc, query)? {
+        Some(numbering) => some_reordered(alloc, query, &numbering, tables),
+        None => some_in_order(alloc, query, tables),
     }
-    Ok(None)
 }

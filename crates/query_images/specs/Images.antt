@@ -1,6 +1,5 @@
 -- The images of a query over tables.
 use Rattle.std.specs.Prelude.{ℕ, ◌≤◌, ◌↔◌, ◌⊎◌, List, length}
-use Rattle.std.specs.List.{flat_map}
 use Rattle.std.specs.Option.{option_to_list}
 use Rattle.vocabulary.specs.declared.term.Term.{Term}
 use Rattle.vocabulary.specs.declared.term.Fact.{Fact}
@@ -10,9 +9,8 @@ use Rattle.queries.specs.declared.query.Query.{Query}
 use Rattle.queries.specs.Matches.{IsMatch, Terms}
 use Rattle.queries.specs.Occurrences.{HeadStands}
 use Rattle.mapping_facts.specs.declared.query.RowQuery.{RowQuery}
-use Rattle.mapping_facts.specs.RowQueries.{row_tuples, terms_at}
+use Rattle.mapping_facts.specs.RowQueries.{terms_at}
 use Rattle.mapping_facts.specs.Tuples.{cell_of}
-use Rattle.mapping_unfolding.specs.declared.unfolded.Unfolded.{Unfolded}
 
 -- the tuple is the image of the head under a match of the query in the facts
 unfoldable pub IsImage : List Fact → Query → List Term → Type 0
@@ -34,11 +32,3 @@ pub record CanUnfold (q : Query) : Type 0 where
 -- the terms of a row query's head at a tuple of row numbers, none where one is not defined
 abbrev pub head_at : List Loaded → RowQuery → List ℕ → List (List Term)
 head_at tables q tuple = option_to_list (terms_at (cell_of tables q.query.tables tuple) q.head)
-
--- the same for each of its tuples
-unfoldable pub heads_of : List Loaded → RowQuery → List (List Term)
-heads_of tables q = flat_map (head_at tables q) (row_tuples tables q)
-
--- the same for each row query of a list
-abbrev pub all_heads : List Loaded → List Unfolded → List (List Term)
-all_heads tables list = flat_map (λ u. heads_of tables u.rows) list

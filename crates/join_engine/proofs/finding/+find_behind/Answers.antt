@@ -4,8 +4,8 @@ use Rattle.std.proofs.lemmas.List.{take_all}
 use Rattle.std.proofs.lemmas.Result.{IfOk-weaker}
 use Rattle.vocabulary.specs.Lists.{In}
 use Rattle.join_engine.specs.Fronts.{asked_behind}
-use Rattle.join_engine.specs.Ties.{Covers}
-use Rattle.join_engine.proofs.Fronts.{found_cut, found_none, found_row, found_whole, front_again, none_more, pushed_row}
+use Rattle.join_engine.specs.Ties.{Covers, row_list}
+use Rattle.join_engine.proofs.Fronts.{found_cut, found_none, found_row, found_whole, front_again, none_more, pushed_number, tried_low, tried_past}
 use Rattle.join_engine.proofs.finding.+find_behind.Goals as goal
 
 below : (n d m l : ℕ) → n ≡ d → n ≤ m → l ≡ m → (d ≡ l → ⊥) → d < m
@@ -21,34 +21,40 @@ returns-then-depth-len t c =
 
 pub returns-then-branch : goal.returns-then-branch
 returns-then-branch t c =
+    let rows = row_list c.next_rows-rows.result in
     let len = ap length (sym c.as_slice.ensures.value) ∙ c.as_slice.ensures.len ∙ sym c.len-depth.ensures in
     let within : c.len-depth.result < length c.args.query.now.query.tables = below _ _ _ _ len c.requires.within c.len.ensures c.if-depth-len.false in
     let front : length c.args.front.now.items < length c.args.query.now.query.tables = omega (arith, len, within) in
-    let covers = subst (λ xs. Covers c.args.tables.now c.args.query.now.query xs c.next_rows-rows.result.now) c.as_slice-2.ensures.value c.next_rows-rows.ensures in
-    let pushed = pushed_row c.args.front.now.items c.loop-row.front.items c.push.new.self.items (get_or c.next_rows-rows.result.now c.loop-row.row-index 0) c.loop-row.invariant.front c.in_ok-push.ensures.items in
+    let covers = subst (λ xs. Covers c.args.tables.now c.args.query.now.query xs rows) c.as_slice-2.ensures.value c.next_rows-rows.ensures in
+    let low = tried_low c.loop-i.i _ (length rows) c.loop-i-test.true c.len-i-end.ensures in
+    let pushed = pushed_number c.args.front.now.items c.loop-i.front.items c.push.new.self.items c.at.result (get_or rows c.loop-i.i 0) c.loop-i.invariant.front c.in_ok-push.ensures.items c.at.ensures in
     let behind = rw c.if-branch.true at c.in_ok-find_behind.ensures in
-    found_row c.args.tables.now c.args.query.now c.args.front.now.items c.next_rows-rows.result.now c.loop-row.row-index c.find_behind.new.front.items covers front c.loop-row-test.true
+    found_row c.args.tables.now c.args.query.now c.args.front.now.items rows c.loop-i.i c.find_behind.new.front.items covers front low
     (subst (λ front. In c.find_behind.new.front.items (asked_behind c.args.tables.now c.args.query.now front)) pushed behind)
 
-pub loop-row-preserved : goal.loop-row-preserved
-loop-row-preserved t c =
+pub loop-i-preserved : goal.loop-i-preserved
+loop-i-preserved t c =
+    let rows = row_list c.next_rows-rows.result in
     let len = ap length (sym c.as_slice.ensures.value) ∙ c.as_slice.ensures.len ∙ sym c.len-depth.ensures in
-    let pushed = pushed_row c.args.front.now.items c.loop-row.front.items c.push.new.self.items (get_or c.next_rows-rows.result.now c.loop-row.row-index 0) c.loop-row.invariant.front c.in_ok-push.ensures.items in
+    let low = tried_low c.loop-i.i _ (length rows) c.loop-i-test.true c.len-i-end.ensures in
+    let pushed = pushed_number c.args.front.now.items c.loop-i.front.items c.push.new.self.items c.at.result (get_or rows c.loop-i.i 0) c.loop-i.invariant.front c.in_ok-push.ensures.items c.at.ensures in
     let behind = rw c.if-branch.false at c.in_ok-find_behind.ensures in
     record {
-      front = front_again c.args.front.now.items c.loop-row.front.items c.push.new.self.items c.find_behind.new.front.items c.truncate.new.self.items (get_or c.next_rows-rows.result.now c.loop-row.row-index 0) c.len-depth.result len c.loop-row.invariant.front c.in_ok-push.ensures.items behind.0 c.truncate.ensures.items;
+      front = front_again c.args.front.now.items c.loop-i.front.items c.push.new.self.items c.find_behind.new.front.items c.truncate.new.self.items c.at.result c.len-depth.result len c.loop-i.invariant.front c.in_ok-push.ensures.items behind.0 c.truncate.ensures.items;
       none =
-          none_more (λ i. asked_behind c.args.tables.now c.args.query.now (c.args.front.now.items ++ (i ∷ []))) c.next_rows-rows.result.now c.loop-row.row-index c.loop-row-test.true c.loop-row.invariant.none
+          none_more (λ i. asked_behind c.args.tables.now c.args.query.now (c.args.front.now.items ++ (i ∷ []))) rows c.loop-i.i low c.loop-i.invariant.none
           (sym (ap (asked_behind c.args.tables.now c.args.query.now) pushed) ∙ behind.1);
     }
 
 pub returns : goal.returns
 returns t c =
+    let rows = row_list c.next_rows-rows.result in
     let len = ap length (sym c.as_slice.ensures.value) ∙ c.as_slice.ensures.len ∙ sym c.len-depth.ensures in
     let within : c.len-depth.result < length c.args.query.now.query.tables = below _ _ _ _ len c.requires.within c.len.ensures c.if-depth-len.false in
     let front : length c.args.front.now.items < length c.args.query.now.query.tables = omega (arith, len, within) in
-    let covers = subst (λ xs. Covers c.args.tables.now c.args.query.now.query xs c.next_rows-rows.result.now) c.as_slice-2.ensures.value c.next_rows-rows.ensures in (
-      c.loop-row.invariant.front,
-      found_none c.args.tables.now c.args.query.now c.args.front.now.items c.next_rows-rows.result.now covers front
-          (sym (ap (flat_map (λ i. asked_behind c.args.tables.now c.args.query.now (c.args.front.now.items ++ (i ∷ [])))) (take_all c.loop-row.row-index c.next_rows-rows.result.now c.loop-row-test.false)) ∙ c.loop-row.invariant.none),
+    let covers = subst (λ xs. Covers c.args.tables.now c.args.query.now.query xs rows) c.as_slice-2.ensures.value c.next_rows-rows.ensures in
+    let past = tried_past c.loop-i.i _ (length rows) c.loop-i-test.false c.len-i-end.ensures in (
+      c.loop-i.invariant.front,
+      found_none c.args.tables.now c.args.query.now c.args.front.now.items rows covers front
+          (sym (ap (flat_map (λ i. asked_behind c.args.tables.now c.args.query.now (c.args.front.now.items ++ (i ∷ [])))) (take_all c.loop-i.i rows past)) ∙ c.loop-i.invariant.none),
     )

@@ -1,6 +1,7 @@
 use Rattle.std.proofs.Common.{◌≡◌, ◌-◌, ◌++◌, [], ◌∷◌, length, take}
 use Rattle.std.specs.List.{flat_map}
 use Rattle.join_engine.specs.Fronts.{asked_behind}
+use Rattle.join_engine.specs.Ties.{row_list}
 use Rattle.join_engine.proofs.finding.+find_behind.Given as goal
 
 -- the tables that are left
@@ -8,8 +9,8 @@ abbrev pub decreases-find_behind : goal.decreases-find_behind
 decreases-find_behind l = length l.query.now.query.tables - length l.front.now.items
 
 -- no row so far has a tuple behind it
-abbrev pub invariant-loop-row : goal.invariant-loop-row
-invariant-loop-row l = record {
+abbrev pub invariant-loop-i : goal.invariant-loop-i
+invariant-loop-i l = record {
   front : l.front.items ≡ l.fn.front.items;
-  none : flat_map (λ i. asked_behind l.tables l.query (l.fn.front.items ++ (i ∷ []))) (take l.row-index l.rows) ≡ [];
+  none : flat_map (λ i. asked_behind l.tables l.query (l.fn.front.items ++ (i ∷ []))) (take l.i (row_list l.rows)) ≡ [];
 }

@@ -1,7 +1,0 @@
-use Rattle.std.proofs.Common.{◌∙◌, sym}
-use Rattle.join_engine.proofs.Ties.{item_in}
-use Rattle.join_engine.proofs.choosing.first_equal.Goals as goal
-
-pub returns-in-Some : goal.returns-in-Some
-returns-in-Some c =
-    (c.condition-item.result, item_in c.args.conditions.now c.loop-condition.condition-index c.condition-item.result c.loop-condition-test.true c.condition-item.is, rw c.in-Some.is at c.equal_in.ensures)

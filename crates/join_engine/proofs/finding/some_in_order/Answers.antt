@@ -1,0 +1,15 @@
+use Rattle.join_engine.proofs.Gaining.{none_behind, some_behind}
+use Rattle.join_engine.proofs.finding.some_in_order.Goals as goal
+
+pub returns-then-not-branch : goal.returns-then-not-branch
+returns-then-not-branch c = rw c.if-not-branch.true at c.in_ok-settle_parts.ensures
+
+pub returns-then-not-branch-2 : goal.returns-then-not-branch-2
+returns-then-not-branch-2 c =
+    let settled = rw c.if-not-branch.false at c.in_ok-settle_parts.ensures in
+    none_behind c.args.tables.now c.args.query.now c.settle_parts.new.front.items c.find_behind.new.front.items settled.0 (rw c.if-not-branch-2.true at c.in_ok-find_behind.ensures)
+
+pub returns : goal.returns
+returns c =
+    let settled = rw c.if-not-branch.false at c.in_ok-settle_parts.ensures in
+    some_behind c.args.tables.now c.args.query.now c.settle_parts.new.front.items c.find_behind.new.front.items c.from_vec.result settled.0 (rw c.if-not-branch-2.false at c.in_ok-find_behind.ensures) c.from_vec.ensures

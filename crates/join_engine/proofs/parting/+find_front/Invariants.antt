@@ -1,0 +1,16 @@
+use Rattle.std.proofs.Common.{◌≡◌, ◌-◌, ◌++◌, [], ◌∷◌, length, take}
+use Rattle.std.specs.List.{flat_map}
+use Rattle.join_engine.specs.Fronts.{asked_behind}
+use Rattle.join_engine.specs.Ties.{row_list}
+use Rattle.join_engine.proofs.parting.+find_front.Given as goal
+
+-- the tables that are left
+abbrev pub decreases-find_front : goal.decreases-find_front
+decreases-find_front l = length l.query.now.query.tables - length l.front.now.items
+
+-- no row so far has a tuple behind it
+abbrev pub invariant-loop-i : goal.invariant-loop-i
+invariant-loop-i l = record {
+  front : l.front.items ≡ l.fn.front.items;
+  none : flat_map (λ i. asked_behind l.tables l.query (l.fn.front.items ++ (i ∷ []))) (take l.i (row_list l.rows)) ≡ [];
+}
