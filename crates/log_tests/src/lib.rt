@@ -14,6 +14,8 @@ mod derivations;
 #[cfg(test)]
 mod failing;
 #[cfg(test)]
+mod folds;
+#[cfg(test)]
 mod limits;
 #[cfg(test)]
 mod logs;

@@ -232,10 +232,7 @@ fn wide_tells(alloc: Global, words: &str, want: &str) -> Result<bool, AllocError
 fn five_thousand_rewritings_are_too_many(rt: HostRuntime) -> Result<(), Fail> {
     for (words, want) in [
         ("rewrite p w", "8\n--\nlimit: rewriting"),
-        (
-            "answer p w",
-            "0\n<http://e/1> <http://e/2>\n--\nanswers 1",
-        ),
+        ("answer p w", "0\n<http://e/1> <http://e/2>\n--\nanswers 1"),
         ("check p", "0\n--\nconsistent"),
     ] {
         assert!(rt; wide_tells(rt.alloc(), words, want)?, "{words}");
@@ -275,7 +272,10 @@ fn four_thousand_folds_are_too_many(rt: HostRuntime) -> Result<(), Fail> {
         (12, "answer p case", "0\n<http://e/1>\n--\nanswers 1"),
         (12, "check p", "0\n--\nconsistent"),
     ] {
-        assert!(rt; partnered_tell(rt.alloc(), links, words, want)?, "{links} {words}");
+        assert!(rt;
+            partnered_tell(rt.alloc(), links, words, want)?,
+            "{links} {words}"
+        );
     }
     Ok(())
 }
