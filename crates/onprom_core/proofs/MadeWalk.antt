@@ -35,6 +35,7 @@ use Rattle.onprom_core.specs.Jobs.{EndsExtraction, EndsMade}
 use Rattle.onprom_core.specs.Lines.{limit_line}
 use Rattle.onprom_core.specs.Outputs.{EndsWell, Works, ended}
 use Rattle.onprom_core.specs.Steps.{Step, bind_end, goes, ◌>>=◌}
+use Rattle.onprom_core.specs.Texts.{text_of}
 use Rattle.onprom_core.specs.Walk.{Files, Job, Extracting, complete_step, extract_step, file_step, held_step, lack_step, loaded_step, one_table, project_step, read_step, sources_step, stop, table_step, tables_step, together_step}
 use Rattle.onprom_core.proofs.WalksBack.{back, held_back, lack_back, read_back}
 
@@ -175,7 +176,7 @@ made_ends files files' p output held works =
 -- what stops the walk over the made project is no failure, and no want of a command or of a file
 pub made_stops : (n : ℕ) (files : Files) (h : Halt) (stopped : Stopped) (o : Output) (absences absences' : ℕ) → files ≡ made_files n → h ≡ halt.Stopped stopped
     → Works (Err h) (extract_step files (codes "project.txt")) → CountsHalt h 0 0 absences absences' false → (SaysUsage h → ⊥)
-    → o.status ≡ stopped.status → o.text.items ≡ [] → EndsWell false o
+    → o.status ≡ stopped.status → text_of o.text ≡ [] → EndsWell false o
 made_stops n files h stopped o absences absences' held kind works counts usage same empty =
     let halts : Works (Err (halt.Stopped stopped)) (extract_step (made_files n) (codes "project.txt")) = rw (held, kind) at works in
     let quiet : CountsHalt (halt.Stopped stopped) 0 0 absences absences' false = rw kind at counts in

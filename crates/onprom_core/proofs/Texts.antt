@@ -1,11 +1,13 @@
--- A text of derivations is UTF-8.
-use Rattle.std.proofs.Common.{◌≡◌, refl, sym, ◌∙◌, ap, ℕ, Bool, true, false, List, Result, Err, codes, if◌then◌else◌}
+-- A text of derivations is UTF-8, and that of a log is not empty.
+use Rattle.std.proofs.Common.{◌≡◌, refl, sym, ◌∙◌, ap, ℕ, Bool, true, false, List, [], Result, Err, codes, if◌then◌else◌}
 use Rattle.std.specs.Str.{IsUtf8, is_utf8}
 use Rattle.std.proofs.lemmas.Str.{IsUtf8-from_is_utf8, is_utf8-from_IsUtf8}
 use Rattle.conflict_checker.specs.declared.derivation.Derivation.{Derivation}
 use Rattle.derivation_text.specs.Reading.{derivations_of}
 use Rattle.project_language.specs.Project.{bad_line}
 use Rattle.project_language.specs.declared.project.Project.{Project}
+use Rattle.xes_writer.specs.declared.log.Log.{Log}
+use Rattle.xes_writer.specs.Xes.{log_front, xes_text}
 use Rattle.onprom_core.specs.declared.halt.Halt.{Halt}
 use Rattle.onprom_core.specs.declared.status.Status.TheVariants as status
 use Rattle.onprom_core.specs.Lines.{line_refused}
@@ -34,3 +36,7 @@ module _ (project : Project) (d bytes : List ℕ) where
   bytes_told r line none is refused =
       let e = no_text (is_utf8 bytes) refl (λ h. none (IsUtf8-from_is_utf8 bytes h)) in
       rw refused (ap (λ s. s.end) e ∙ ap (λ l. Err (record { status = status.Refused; line = l })) (sym is))
+
+pub log_has_text : (log : Log (List ℕ)) → xes_text log ≡ [] → ⊥
+unfolding xes_text log_front
+log_has_text log none = absurd cc

@@ -9,6 +9,7 @@ pub mod Headline
 pub mod Extracted
 pub mod Causes
 pub mod Delivery
+pub mod Texts
 pub mod Shown
 pub mod Outputs
 pub mod Rewritten

@@ -12,13 +12,14 @@ use Rattle.onprom_core.specs.declared.status.Status.TheVariants as status
 use Rattle.onprom_core.specs.Causes.{IsWhole}
 use Rattle.onprom_core.specs.Lines.{limit_line}
 use Rattle.onprom_core.specs.Jobs.{Ending, IsEnd, IsJobEnd}
+use Rattle.onprom_core.specs.Texts.{text_of}
 use Rattle.project_language.specs.declared.project.Project.{Project}
 use Rattle.onprom_core.specs.Steps.{Step, goes, ◌>>=◌, Halts}
 use Rattle.onprom_core.specs.Walk.{Files, Job, Extracting, Checking, Verifying, Answering, Rewriting, Linting, Containing, complete_step, file_step, query_step, sources_step, spell_step, walk, width_step}
 
 -- an output as an ending
 abbrev pub ended : Output → Ending
-ended o = record { status = o.status; out = o.text.items; report = o.report }
+ended o = record { status = o.status; out = text_of o.text; report = o.report }
 
 -- the output is of no failure, and of no want of a command or of a file; it has a text only where it is done, or is the conflict of `check`
 pub record EndsWell (checks : Bool) (o : Output) : Type 0 where
@@ -26,7 +27,7 @@ pub record EndsWell (checks : Bool) (o : Output) : Type 0 where
   pub read : o.status ≢ status.ReadFault
   pub usage : o.status ≢ status.Usage
   pub absent : o.status ≢ status.Absent
-  pub silent : o.status ≢ status.Done → (o.status ≡ status.Conflict → checks ≡ false) → o.text.items ≡ []
+  pub silent : o.status ≢ status.Done → (o.status ≡ status.Conflict → checks ≡ false) → text_of o.text ≡ []
 
 -- the output is an end of the job to which the walk comes; else what stopped the code stops the walk
 abbrev pub Works : Result Output Halt → Step Job → Type 0

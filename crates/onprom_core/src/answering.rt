@@ -9,7 +9,7 @@ ghost use Rattle.project_language.specs.Sound.{IsSound};
 
 use crate::Status;
 use crate::lines::line_of;
-use crate::output::Output;
+use crate::output::{Output, Text};
 use crate::specifying::specification;
 use crate::width::too_wide;
 use answer_text::{answers_report, answers_text};
@@ -52,7 +52,7 @@ fn answered(alloc: Global, tuples: &[List<Term>]) -> Result<Output, AllocError>
     let report = line_of(alloc, said.items())?;
     Ok(Output {
         status: Status::Done,
-        text: text.into_vec(),
+        text: Text::Bytes(text),
         report,
     })
 }

@@ -8,13 +8,14 @@ ghost use Rattle.project_language.specs.Sound.{IsSound};
 use crate::Status;
 use crate::consistency::{contradictions, spelled};
 use crate::lines::{line_of, numbered_line};
-use crate::output::Output;
+use crate::output::{Output, Text};
 use conflict_checker::Derivation;
 use outside::Bytes;
 use project_language::Project;
 use source_tables::Table;
 use std::alloc::{AllocError, Global};
 use uml_model::axioms_of;
+use vocabulary::List;
 
 /// Whether a project is consistent over its tables, and what contradicts it.
 pub(crate) fn checking(
@@ -41,7 +42,7 @@ fn consistent(alloc: Global) -> Result<Output, AllocError>
     let report = line_of(alloc, b"consistent\n")?;
     Ok(Output {
         status: Status::Done,
-        text: Vec::new(alloc),
+        text: Text::none(alloc),
         report,
     })
 }
@@ -63,7 +64,7 @@ fn contradicted(
     let text = spelled(alloc, project, tables, found)?;
     Ok(Output {
         status: Status::Conflict,
-        text: Vec::from_slice(alloc, text.text().as_bytes())?,
+        text: Text::Bytes(List::from_vec(Vec::from_slice(alloc, text.text().as_bytes())?)),
         report,
     })
 }

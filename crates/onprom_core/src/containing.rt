@@ -13,7 +13,7 @@ ghost use Rattle.project_language.specs.Sound.{IsSound};
 use crate::Status;
 use crate::halt::Halt;
 use crate::lines::{line_of, width_refused};
-use crate::output::Output;
+use crate::output::{Output, Text};
 use crate::querying::found;
 use crate::reading::{project_read, refuse};
 use crate::width::too_wide;
@@ -102,7 +102,7 @@ fn said(alloc: Global, place: Option<u32>) -> Result<Output, AllocError>
     let report = line_of(alloc, said.items())?;
     Ok(Output {
         status: Status::Done,
-        text: text.into_vec(),
+        text: Text::Bytes(text),
         report,
     })
 }

@@ -4,12 +4,14 @@ ghost use Rattle.onprom_core.specs.Causes.{CountsEnd, IsWhole, SaysLine};
 ghost use Rattle.onprom_core.specs.Commands.{is_check, is_make};
 ghost use Rattle.onprom_core.specs.Delivery.{ComesToJob, IsDecided, IsFirstEnd};
 ghost use Rattle.onprom_core.specs.Shown.{shown};
+ghost use Rattle.onprom_core.specs.Texts.{text_of};
 ghost use Rattle.onprom_core.specs.Walk.{IsNoCommand};
 
 use crate::Status;
 use crate::commands::work;
 use crate::halt::Halt;
 use crate::lines::named_line;
+use crate::output::Text;
 use outside::{Bytes, Shelf, Words};
 use std::alloc::{AllocError, Global};
 
@@ -17,7 +19,7 @@ use std::alloc::{AllocError, Global};
 #[derive(Drop)]
 pub(crate) struct Decided {
     pub status: Status,
-    pub text: Vec<u8>,
+    pub text: Text,
     pub line: Bytes,
 }
 
@@ -35,7 +37,7 @@ pub(crate) fn decide<S: Shelf>(
     ensures no_command { IsNoCommand words.now → IfOk result (λ d. d.status ≡ Status.Usage) }
     ensures whole { IfOk result (λ d. IsWhole d.status) }
     ensures line { IfOk result (λ d. SaysLine d.status d.line) }
-    ensures silent { IfOk result (λ d. d.status ≢ Status.Done → (d.status ≡ Status.Conflict → is_check words.now ≡ false) → d.text.items ≡ []) }
+    ensures silent { IfOk result (λ d. d.status ≢ Status.Done → (d.status ≡ Status.Conflict → is_check words.now ≡ false) → text_of d.text ≡ []) }
     ensures last { S.faults shelf.new ≢ S.faults shelf.old → IsTrue (S.failed shelf.new) }
     ensures fault_last { IfOk result (λ d. d.status ≡ Status.ReadFault → IsTrue (S.failed shelf.new)) }
     ensures counts { IfOk result (λ d. CountsEnd (S.faults shelf.old) (S.faults shelf.new)
@@ -51,12 +53,12 @@ pub(crate) fn decide<S: Shelf>(
         }),
         Err(Halt::Stopped(stopped)) => Ok(Decided {
             status: stopped.status,
-            text: Vec::new(alloc),
+            text: Text::none(alloc),
             line: stopped.line,
         }),
         Err(Halt::ReadFault(name)) => Ok(Decided {
             status: Status::ReadFault,
-            text: Vec::new(alloc),
+            text: Text::none(alloc),
             line: named_line(alloc, b"read fault: ", name.slice(), b"\n")?,
         }),
         Err(Halt::NoMemory) => Err(AllocError),

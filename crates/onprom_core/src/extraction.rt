@@ -10,7 +10,7 @@ ghost use Rattle.project_language.specs.Sound.{IsSound};
 use crate::Status;
 use crate::consistency::{contradictions, spelled};
 use crate::lines::line_of;
-use crate::output::Output;
+use crate::output::{Output, Text};
 use crate::specifying::specification;
 use crate::width::too_wide;
 use conflict_checker::Derivation;
@@ -21,7 +21,6 @@ use project_language::Project;
 use source_tables::Table;
 use std::alloc::{AllocError, Global};
 use uml_model::axioms_of;
-use xes_writer::log_text;
 
 /// The log of a project over its tables, whose annotations lack nothing, or what contradicts it.
 pub(crate) fn extraction(
@@ -58,7 +57,7 @@ fn contradicted(
     let report = line_of(alloc, text.text().as_bytes())?;
     Ok(Output {
         status: Status::Conflict,
-        text: Vec::new(alloc),
+        text: Text::none(alloc),
         report,
     })
 }
@@ -92,12 +91,11 @@ fn extracted(alloc: Global, project: &Project, asked: &Asked) -> Result<Output, 
 {
     let notes = project.noted.notes();
     let log = assemble(alloc, notes, asked)?;
-    let text = log_text(alloc, &log)?;
     let said = report(alloc, notes, asked, &log)?;
     let report = line_of(alloc, &said)?;
     Ok(Output {
         status: Status::Done,
-        text,
+        text: Text::Log(log),
         report,
     })
 }

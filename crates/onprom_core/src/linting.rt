@@ -12,7 +12,7 @@ use crate::Status;
 use crate::halt::Halt;
 use crate::lines::line_of;
 use crate::model_names::{class_names, link_names};
-use crate::output::Output;
+use crate::output::{Output, Text};
 use crate::reading::project_read;
 use answer_text::{voids_report, voids_text};
 use model_lint::{VoidProof, voids};
@@ -66,7 +66,7 @@ fn listed(alloc: Global, project: &Project, proofs: &[VoidProof]) -> Result<Outp
     let report = line_of(alloc, said.items())?;
     Ok(Output {
         status: Status::Done,
-        text: text.into_vec(),
+        text: Text::Bytes(text),
         report,
     })
 }

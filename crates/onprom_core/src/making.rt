@@ -9,7 +9,7 @@ ghost use Rattle.onprom_core.specs.Walk.{extract_step};
 use crate::Status;
 use crate::commands::extract;
 use crate::halt::Halt;
-use crate::output::Output;
+use crate::output::{Output, Text};
 use big_project::{file, first_line, shelf};
 use outside::Bytes;
 use std::alloc::{AllocError, Global};
@@ -32,7 +32,7 @@ fn written(alloc: Global, text: List<u8>) -> Output
 {
     Output {
         status: Status::Done,
-        text: text.into_vec(),
+        text: Text::Bytes(text),
         report: Bytes::new(alloc),
     }
 }
@@ -58,7 +58,7 @@ fn summary_of(alloc: Global, log: Output) -> Result<Output, AllocError>
         }
         status => Ok(Output {
             status,
-            text: Vec::new(alloc),
+            text: Text::none(alloc),
             report: log.report,
         }),
     }
@@ -74,7 +74,7 @@ fn extracted(alloc: Global, docs: u32) -> Result<Output, AllocError>
         Ok(output) => Ok(output),
         Err(Halt::Stopped(stopped)) => Ok(Output {
             status: stopped.status,
-            text: Vec::new(alloc),
+            text: Text::none(alloc),
             report: stopped.line,
         }),
         Err(Halt::ReadFault(_)) => Err(AllocError),

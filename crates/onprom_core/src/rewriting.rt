@@ -10,7 +10,7 @@ ghost use Rattle.onprom_core.specs.Rewritten.{PrintsKept, done_with};
 use crate::Status;
 use crate::lines::line_of;
 use crate::model_names::{class_names, link_names};
-use crate::output::Output;
+use crate::output::{Output, Text};
 use crate::width::too_wide;
 use answer_text::{QueryNames, queries_report, queries_text};
 use perfect_rewriting::{RewriteFault, rewrite};
@@ -67,7 +67,7 @@ fn listed(
     let report = line_of(alloc, said.items())?;
     Ok(Output {
         status: Status::Done,
-        text: text.into_vec(),
+        text: Text::Bytes(text),
         report,
     })
 }

@@ -8,7 +8,7 @@ ghost use Rattle.project_language.specs.Sound.{IsSound};
 
 use crate::Status;
 use crate::lines::numbered_line;
-use crate::output::Output;
+use crate::output::{Output, Text};
 use conflict_checker::{Derivation, accepts};
 use dllite_axioms::Tbox;
 use mapping_facts::Mapping;
@@ -53,7 +53,7 @@ fn judged(alloc: Global, status: Status, report: Bytes) -> Output
 {
     Output {
         status,
-        text: Vec::new(alloc),
+        text: Text::none(alloc),
         report,
     }
 }

@@ -5,7 +5,7 @@ ghost use Rattle.onprom_core.specs.Outputs.{EndsWell, ended};
 
 use crate::Status;
 use crate::lines::line_of;
-use crate::output::Output;
+use crate::output::{Output, Text};
 use std::alloc::{AllocError, Global};
 
 /// The limit of rewritings is passed.
@@ -16,7 +16,7 @@ pub(crate) fn too_wide(alloc: Global) -> Result<Output, AllocError>
     let report = line_of(alloc, b"limit: rewriting\n")?;
     Ok(Output {
         status: Status::Limit,
-        text: Vec::new(alloc),
+        text: Text::none(alloc),
         report,
     })
 }

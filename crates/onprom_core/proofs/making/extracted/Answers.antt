@@ -11,4 +11,4 @@ pub returns-in-Err-Stopped-clause-well : goal.returns-in-Err-Stopped-clause-well
 returns-in-Err-Stopped-clause-well c =
     made_stops c.args.docs c.in_ok-shelf.shelf.opened.files c.in-Err-Stopped.field-0 c.in-Err-Stopped.stopped _
     c.in_ok-shelf.shelf.absences c.extract.new.shelf.absences c.in_ok-shelf.ensures c.in-Err-Stopped.field-0-is
-    c.in-Err-Stopped.ensures.told c.in-Err-Stopped.ensures.counts.halted c.in-Err-Stopped.ensures.usage refl c.new.ensures.items
+    c.in-Err-Stopped.ensures.told c.in-Err-Stopped.ensures.counts.halted c.in-Err-Stopped.ensures.usage refl c.none.ensures
