@@ -1,3 +1,12 @@
+pub mod Applying
+pub mod Asking
+pub mod Bearing
 pub mod Explanations
+pub mod Finding
+pub mod Folding
 pub mod Laws
+pub mod Matching
+pub mod Putting
 pub mod Reading
+pub mod Showing
+pub mod Unwinding
