@@ -3,7 +3,9 @@ use Rattle.std.proofs.Common.{◌≡◌, refl, sym, ◌∙◌, ap, ℕ, ◌+◌,
 use Rattle.std.specs.Str.{bytes_eq}
 use Rattle.std.proofs.lemmas.Bool.Decides.{nat_tests}
 use Rattle.std.specs.List.{list_any, prefix_len}
-use Rattle.std.proofs.lemmas.List.{take_all}
+use Rattle.std.proofs.lemmas.List.{take_all, map-append}
+use Rattle.indexmap.specs.IndexSet.{insert_key}
+use Rattle.line_lexer.proofs.Twice.{any_of_map}
 use Rattle.vocabulary.specs.Texts.{number_of}
 use Rattle.annotation_language.specs.Lines.{each_once}
 use Rattle.annotation_language.specs.Resolved.{texts}
@@ -66,3 +68,11 @@ number_none_left names v n none le = let all = take_all n names le in rw all at 
 pub each_once_append : (found vs ws : List (List ℕ)) → each_once found (vs ++ ws) ≡ each_once (each_once found vs) ws
 each_once_append found [] ws = refl
 each_once_append found (v ∷ vs) ws = each_once_append (if list_any (bytes_eq v) found then found else found ++ v ∷ []) vs ws
+
+-- one more name among names
+pub inserted : (names : List (Bor (List ℕ))) (v : Bor (List ℕ)) → texts (insert_key (λ x y. bytes_eq x.now y.now) names v) ≡ each_once (texts names) (v.now ∷ [])
+inserted names v = rw (any_of_map (bytes_eq v.now) (λ name. name.now) names) (by (list_any (λ name. bytes_eq v.now name.now) names))
+  where
+    by : (t : Bool) → texts (if t then names else names ++ v ∷ []) ≡ (if t then texts names else texts names ++ v.now ∷ [])
+    by true = refl
+    by false = map-append (λ name. name.now) names (v ∷ [])

@@ -1,5 +1,5 @@
 -- Sorts that differ.
-use Rattle.std.proofs.Common.{◌≡◌, refl, sym, ap, ◌∙◌, ℕ, ◌+◌, ◌<◌, Bool, true, false, not, List, [], ◌∷◌, Option, Some, None, length, map, drop, get_or, arith}
+use Rattle.std.proofs.Common.{◌≡◌, refl, sym, ap, ◌∙◌, ℕ, ◌+◌, ◌<◌, ◌≤◌, true, not, List, [], ◌∷◌, Some, length, map, drop, get_or, arith}
 use Rattle.std.proofs.lemmas.List.{drop_more}
 use Rattle.std.specs.List.{list_any}
 use Rattle.vocabulary.specs.declared.ids.Side.{Side}
@@ -24,14 +24,10 @@ same_side-refl : (side : Side) → same_side side side ≡ true
 same_side-refl Object = refl
 same_side-refl (Value k) = same_kind-refl k
 
--- a sort that differs from the first
-abbrev pub differs_from : Option Side → List Side → Bool
-differs_from None sides = false
-differs_from (Some side) sides = list_any (λ other. not (same_side side other)) sides
-
-pub differs_from_first : (sides : List Side) → differ sides ≡ differs_from (first_of sides) sides
-differs_from_first [] = refl
-differs_from_first (side ∷ sides) = rw (same_side-refl side) refl
+-- the first sort is no other
+pub differs_from_first : (sides : List Side) (d : Side) → 1 ≤ length sides → list_any (λ other. not (same_side (get_or sides 0 d) other)) sides ≡ differ sides
+differs_from_first [] d some = absurd (omega arith)
+differs_from_first (side ∷ sides) d some = rw (same_side-refl side) refl
 
 -- the first place of a variable gives the first sort
 first_here : (v : List ℕ) (a : written.Argument) (side : Side) (rest : List lines.Placed) → is_of v (record { argument = a; side = side }) ≡ true → Some side ≡ first_of (sides_at v (record { argument = a; side = side } ∷ rest))

@@ -6,6 +6,7 @@ pub mod Shown
 pub mod Grammar
 pub mod Lines
 pub mod Resolved
+pub mod Sides
 pub mod Changing
 pub mod Reading
 pub mod Named

@@ -17,6 +17,7 @@ mod places;
 mod reader;
 mod resolved;
 mod rules;
+mod sides;
 mod variables;
 mod written;
 

@@ -1,8 +1,8 @@
 //! The places of the atoms of a query, and the sorts that they ask.
-ghost use Rattle.std.specs.Prelude.{◌≡◌, ◌==◌, [], ◌∷◌, ◌++◌, length, map, not, IfOk, OnOk};
-ghost use Rattle.std.specs.List.{flat_map, list_any};
+ghost use Rattle.std.specs.Prelude.{◌≡◌, ◌==◌, [], ◌∷◌, ◌++◌, length, map, IfOk, OnOk};
+ghost use Rattle.std.specs.List.{flat_map};
 ghost use Rattle.uml_model.specs.Rules.{same_kind};
-ghost use Rattle.annotation_language.specs.Lines.{is_value_side, same_side, differ};
+ghost use Rattle.annotation_language.specs.Lines.{is_value_side, same_side};
 ghost use Rattle.annotation_language.specs.Shown.{shown_argument, shown_atom};
 ghost use Rattle.annotation_language.specs.Resolved.{shown_placed, places_of, is_unknown, is_of, sides_at, first_of};
 
@@ -99,7 +99,7 @@ impl<'a> Placed<'a> {
     }
 }
 
-fn is_value_side(side: Side) -> bool
+pub(crate) fn is_value_side(side: Side) -> bool
     ensures { result ≡ is_value_side side }
 {
     match side {
@@ -140,39 +140,4 @@ pub(crate) fn side_of(places: &[Placed<'_>], v: &str) -> Option<Side>
         }
     }
     None
-}
-
-// The variable stands at a place of values.
-pub(crate) fn stands_at_values(places: &[Placed<'_>], v: &str) -> bool
-    ensures { result ≡ list_any is_value_side (sides_at v.now (map shown_placed places.now)) }
-{
-    for placed in places {
-        if placed.is_of(v) && is_value_side(placed.side) {
-            return true;
-        }
-    }
-    false
-}
-
-// The variable stands at a place of another sort.
-fn stands_at_another(places: &[Placed<'_>], v: &str, side: Side) -> bool
-    ensures { result ≡ list_any (λ other. not (same_side side other)) (sides_at v.now (map shown_placed places.now)) }
-{
-    for placed in places {
-        if placed.is_of(v) && !same_side(side, placed.side) {
-            return true;
-        }
-    }
-    false
-}
-
-// The variable stands at places of two sorts.
-#[tactic(auto, using(crate::proofs::Sorts::differs_from_first))]
-pub(crate) fn stands_at_two_sorts(places: &[Placed<'_>], v: &str) -> bool
-    ensures { result ≡ differ (sides_at v.now (map shown_placed places.now)) }
-{
-    match side_of(places, v) {
-        Some(side) => stands_at_another(places, v, side),
-        None => false,
-    }
 }

@@ -6,12 +6,12 @@ ghost use Rattle.iri_templates.specs.Templates.{template_of};
 ghost use Rattle.annotation_language.specs.Lines.{is_value, misfits, is_plain, has_bad_template, differ, is_value_side};
 ghost use Rattle.annotation_language.specs.Shown.{shown_argument, shown_atom};
 ghost use Rattle.annotation_language.specs.Resolved.{IsResolved, texts, shown_placed, places_of, is_unknown, sides_at};
+ghost use Rattle.annotation_language.specs.Sides.{sides_in};
 ghost use Rattle.annotation_language.specs.Reading.{broken_as};
 
-use crate::places::{
-    Placed, is_misapplied, is_unknown, side_of, stands_at_two_sorts, stands_at_values,
-};
+use crate::places::{Placed, is_misapplied, is_unknown};
 use crate::resolved::Resolved;
+use crate::sides::Sides;
 use crate::written::{Argument, WrittenAtom};
 use iri_templates::{Template, TemplateFault};
 use line_lexer::{Counted, LineFault};
@@ -107,11 +107,11 @@ fn some_misapplied(model: &Model, atoms: &[WrittenAtom<'_>]) -> bool
 }
 
 // Some variable stands at places of two sorts.
-fn some_mixed(places: &[Placed<'_>], variables: &[&str]) -> bool
-    ensures { result ≡ list_any (λ v. differ (sides_at v (map shown_placed places.now))) (texts variables.now) }
+fn some_mixed(sides: &Sides<'_>, variables: &[&str]) -> bool
+    ensures { result ≡ list_any (λ v. differ (sides_in sides.now v)) (texts variables.now) }
 {
     for v in variables {
-        if stands_at_two_sorts(places, v) {
+        if sides.differ(v) {
             return true;
         }
     }
@@ -119,11 +119,11 @@ fn some_mixed(places: &[Placed<'_>], variables: &[&str]) -> bool
 }
 
 // Some of the variables stands at a place of values.
-fn some_valued(places: &[Placed<'_>], variables: &[&str]) -> bool
-    ensures { result ≡ list_any (λ v. list_any is_value_side (sides_at v (map shown_placed places.now))) (texts variables.now) }
+fn some_valued(sides: &Sides<'_>, variables: &[&str]) -> bool
+    ensures { result ≡ list_any (λ v. list_any is_value_side (sides_in sides.now v)) (texts variables.now) }
 {
     for v in variables {
-        if stands_at_values(places, v) {
+        if sides.has_values(v) {
             return true;
         }
     }
@@ -131,15 +131,50 @@ fn some_valued(places: &[Placed<'_>], variables: &[&str]) -> bool
 }
 
 // Some of the variables stands at no place.
-fn some_unbound(places: &[Placed<'_>], variables: &[&str]) -> bool
-    ensures { result ≡ list_any (λ v. length (sides_at v (map shown_placed places.now)) == 0) (texts variables.now) }
+fn some_unbound(sides: &Sides<'_>, variables: &[&str]) -> bool
+    ensures { result ≡ list_any (λ v. length (sides_in sides.now v) == 0) (texts variables.now) }
 {
     for v in variables {
-        if side_of(places, v).is_none() {
+        if sides.has_none(v) {
             return true;
         }
     }
     false
+}
+
+// A variable at two sorts, or one of these at values.
+fn is_mixed(sides: &Sides<'_>, variables: &[&str], objects: &[&str]) -> bool
+    ensures { result ≡ (list_any (λ v. differ (sides_in sides.now v)) (texts variables.now)
+        || list_any (λ v. list_any is_value_side (sides_in sides.now v)) (texts objects.now)) }
+{
+    some_mixed(sides, variables) || some_valued(sides, objects)
+}
+
+// Whether variables stand where they may not, and whether some of the head stands at no place.
+#[derive(Clone, Copy)]
+struct Standing {
+    mixed: bool,
+    unbound: bool,
+}
+
+impl Standing {
+    fn of(
+        alloc: Global,
+        places: &[Placed<'_>],
+        variables: &[&str],
+        objects: &[&str],
+        head: &[&str],
+    ) -> Result<Standing, AllocError>
+        ensures mixed { IfOk result (λ s. s.mixed ≡ (list_any (λ v. differ (sides_at v (map shown_placed places.now))) (texts variables.now)
+            || list_any (λ v. list_any is_value_side (sides_at v (map shown_placed places.now))) (texts objects.now))) }
+        ensures unbound { IfOk result (λ s. s.unbound ≡ list_any (λ v. length (sides_at v (map shown_placed places.now)) == 0) (texts head.now)) }
+    {
+        let sides = Sides::of(alloc, places)?;
+        Ok(Standing {
+            mixed: is_mixed(&sides, variables, objects),
+            unbound: some_unbound(&sides, head),
+        })
+    }
 }
 
 /// The first rule that is broken, else the first count that passes its number.
@@ -214,6 +249,7 @@ pub(crate) fn broken_query(
     let places = asked.places.as_slice();
     let variables = asked.variables.as_slice();
     let head = asked.query.head.as_slice();
+    let standing = Standing::of(alloc, places, variables, asks.objects, head)?;
     let rules = [
         (is_missing(model, asks.missing, atoms), LineFault::Unknown),
         (asks.double, LineFault::Double),
@@ -222,11 +258,8 @@ pub(crate) fn broken_query(
             LineFault::TypeMismatch,
         ),
         (some_bad_template(alloc, places)?, LineFault::BadTemplate),
-        (
-            is_mixed(places, variables, asks.objects),
-            LineFault::MixedSort,
-        ),
-        (some_unbound(places, head), LineFault::HeadUnbound),
+        (standing.mixed, LineFault::MixedSort),
+        (standing.unbound, LineFault::HeadUnbound),
         (asks.bad_key, LineFault::BadKey),
     ];
     let counts = [
@@ -242,14 +275,6 @@ fn is_missing(model: &Model, missing: bool, atoms: &[WrittenAtom<'_>]) -> bool
     ensures { result ≡ (missing || list_any (is_unknown model.now) (map shown_atom atoms.now)) }
 {
     missing || some_unknown(model, atoms)
-}
-
-// A variable at two sorts, or one of these at values.
-fn is_mixed(places: &[Placed<'_>], variables: &[&str], objects: &[&str]) -> bool
-    ensures { result ≡ (list_any (λ v. differ (sides_at v (map shown_placed places.now))) (texts variables.now)
-        || list_any (λ v. list_any is_value_side (sides_at v (map shown_placed places.now))) (texts objects.now)) }
-{
-    some_mixed(places, variables) || some_valued(places, objects)
 }
 
 // An atom with another number of arguments than its name asks, or a constant that does not fit.

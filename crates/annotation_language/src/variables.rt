@@ -8,6 +8,7 @@ ghost use Rattle.annotation_language.specs.Shown.{shown_argument, shown_atom, sh
 ghost use Rattle.annotation_language.specs.Resolved.{texts};
 
 use crate::written::{Argument, Asked, WrittenAtom};
+use indexmap::IndexSet;
 use std::alloc::{AllocError, Global};
 
 /// The number of a variable among these.
@@ -25,21 +26,16 @@ pub(crate) fn number_of(variables: &[&str], v: &str) -> Option<usize>
 }
 
 // Adds the variable if it is not there.
-fn add<'a>(found: &mut Vec<&'a str>, v: &'a str) -> Result<(), AllocError>
-    ensures { OnOk result (texts found.new.items ≡ each_once (texts found.old.items) (v.now ∷ [])) }
+fn add<'a>(found: &mut IndexSet<&'a str>, v: &'a str) -> Result<(), AllocError>
+    ensures { OnOk result (texts found.new.keys ≡ each_once (texts found.old.keys) (v.now ∷ [])) }
 {
-    match number_of(found.as_slice(), v) {
-        Some(_) => Ok(()),
-        None => {
-            found.push(v)?;
-            Ok(())
-        }
-    }
+    found.insert(v)?;
+    Ok(())
 }
 
 // Adds the variable that the argument is.
-fn add_argument<'a>(found: &mut Vec<&'a str>, argument: Argument<'a>) -> Result<(), AllocError>
-    ensures { OnOk result (texts found.new.items ≡ each_once (texts found.old.items) (variables_of_argument (shown_argument argument.entry))) }
+fn add_argument<'a>(found: &mut IndexSet<&'a str>, argument: Argument<'a>) -> Result<(), AllocError>
+    ensures { OnOk result (texts found.new.keys ≡ each_once (texts found.old.keys) (variables_of_argument (shown_argument argument.entry))) }
 {
     match argument {
         Argument::Variable(v) => add(found, v),
@@ -48,8 +44,8 @@ fn add_argument<'a>(found: &mut Vec<&'a str>, argument: Argument<'a>) -> Result<
 }
 
 #[tactic(auto, using(crate::proofs::Numbers::each_once_append))]
-fn add_atom<'a>(found: &mut Vec<&'a str>, atom: &WrittenAtom<'a>) -> Result<(), AllocError>
-    ensures { OnOk result (texts found.new.items ≡ each_once (texts found.old.items) (variables_of_atom (shown_atom atom.now))) }
+fn add_atom<'a>(found: &mut IndexSet<&'a str>, atom: &WrittenAtom<'a>) -> Result<(), AllocError>
+    ensures { OnOk result (texts found.new.keys ≡ each_once (texts found.old.keys) (variables_of_atom (shown_atom atom.now))) }
 {
     match atom {
         WrittenAtom::One(_, a) => add_argument(found, *a),
@@ -60,24 +56,33 @@ fn add_atom<'a>(found: &mut Vec<&'a str>, atom: &WrittenAtom<'a>) -> Result<(), 
     }
 }
 
-// The variables of the head, each once.
-fn variables_of_head<'a>(alloc: Global, head: &[&'a str]) -> Result<Vec<&'a str>, AllocError>
-    ensures { IfOk result (λ found. texts found.items ≡ each_once [] (texts head.now)) }
+// Adds the variables of the head.
+fn add_head<'a>(found: &mut IndexSet<&'a str>, head: &[&'a str]) -> Result<(), AllocError>
+    ensures { OnOk result (texts found.new.keys ≡ each_once (texts found.old.keys) (texts head.now)) }
 {
-    let mut found = Vec::new(alloc);
     for v in head {
-        add(&mut found, v)?;
+        add(found, v)?;
     }
-    Ok(found)
+    Ok(())
+}
+
+// Adds the variables of the atoms.
+fn add_atoms<'a>(found: &mut IndexSet<&'a str>, atoms: &[WrittenAtom<'a>]) -> Result<(), AllocError>
+    ensures { OnOk result (texts found.new.keys ≡ each_once (texts found.old.keys) (flat_map variables_of_atom (map shown_atom atoms.now))) }
+{
+    for atom in atoms {
+        add_atom(found, atom)?;
+    }
+    Ok(())
 }
 
 /// The variables of a query by their numbers: by first appearance, the head before the atoms.
+#[tactic(auto, using(crate::proofs::Numbers::each_once_append))]
 pub(crate) fn variables_of<'a>(alloc: Global, query: &Asked<'a>) -> Result<Vec<&'a str>, AllocError>
     ensures { IfOk result (λ found. texts found.items ≡ variables_of (shown_query query.now)) }
 {
-    let mut found = variables_of_head(alloc, query.head.as_slice())?;
-    for atom in &query.atoms {
-        add_atom(&mut found, atom)?;
-    }
-    Ok(found)
+    let mut found = IndexSet::new(alloc);
+    add_head(&mut found, query.head.as_slice())?;
+    add_atoms(&mut found, query.atoms.as_slice())?;
+    Vec::from_slice(alloc, found.as_slice())
 }

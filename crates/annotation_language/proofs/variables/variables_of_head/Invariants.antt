@@ -1,8 +1,0 @@
--- What is found so far, and what is left.
-use Rattle.std.proofs.Common.{◌≡◌, [], drop}
-use Rattle.annotation_language.specs.Lines.{each_once}
-use Rattle.annotation_language.specs.Resolved.{texts}
-use Rattle.annotation_language.proofs.variables.variables_of_head.Given as goal
-
-abbrev pub invariant-loop-v : goal.invariant-loop-v
-invariant-loop-v l = each_once (texts l.found.items) (texts (drop l.v-index l.head)) ≡ each_once [] (texts l.head)
