@@ -1,5 +1,5 @@
 //! Contradicted constraints.
-ghost use Rattle.std.specs.Prelude.{◌≡◌, ◌<◌, ◌≤◌, ◌+◌, ◌-◌, ◌^◌, length, IfOk};
+ghost use Rattle.std.specs.Prelude.{◌≡◌, ◌<◌, ◌≤◌, ◌+◌, ◌-◌, ◌^◌, length, IfOk, OnOk};
 ghost use Rattle.vocabulary.specs.Lists.{In};
 ghost use Rattle.dllite_axioms.specs.Within.{IsAxiomWithin, IsConstraintWithin};
 ghost use Rattle.dllite_axioms.specs.declared.axioms.Axiom.{Axiom as AxiomOf};
@@ -8,6 +8,7 @@ ghost use Rattle.dllite_axioms.specs.declared.axioms.Constraint.TheVariants.{Ide
 ghost use Rattle.mapping_facts.specs.Fits.{AreFit};
 ghost use Rattle.mapping_facts.specs.declared.mapping.Mapping.{Mapping as MappingOf};
 ghost use Rattle.mapping_facts.specs.Within.{AreTargetsWithin, with_targets};
+ghost use Rattle.join_engine.specs.Indexes.{AreOf};
 ghost use Rattle.negative_closure.specs.Sources.{HasExactSources};
 ghost use Rattle.identification_check.specs.Violations.{AreAttributes};
 ghost use Rattle.consistency_check.specs.Checkable.{IsCheckable, IsPrepared, KnowAll};
@@ -20,6 +21,7 @@ use crate::prepared::Prepared;
 use conflict_checker::{Derivation, item};
 use dllite_axioms::{Constraint, Tbox};
 use identification_check::{Violation, find_violation};
+use join_engine::Indexes;
 use mapping_facts::Mapping;
 use source_tables::Table;
 use std::alloc::{AllocError, Global};
@@ -68,17 +70,20 @@ fn by_sources(
     prepared: &Prepared,
     mappings: &[Mapping],
     tables: &[Table],
+    indexes: &mut Indexes,
 ) -> Result<Option<Derivation>, AllocError>
     requires fit { AreFit mappings.now }
+    requires indexes { AreOf tables.now indexes.old }
     requires given { AreMarked mappings.now prepared.now.given }
     requires within { IsConstraintWithin prepared.now.downs.classes prepared.now.downs.links constraint.now }
     requires exact { HasExactSources prepared.now.downs.axioms constraint.now }
-    ensures { IfOk result (IsContradictionOf prepared.now.downs.axioms mappings.now tables.now number constraint.now) }
+    ensures found { IfOk result (IsContradictionOf prepared.now.downs.axioms mappings.now tables.now number constraint.now) }
+    ensures indexes { OnOk result (AreOf tables.now indexes.new) }
 {
     let downs = &prepared.downs;
     let sources = downs.empty_sources(alloc, constraint)?;
     for source in sources.items() {
-        if let Some(met) = meet(alloc, source, &prepared.given, mappings, tables)? {
+        if let Some(met) = meet(alloc, source, &prepared.given, mappings, tables, indexes)? {
             let plan = downs.plan(alloc, constraint, source)?;
             return Ok(Some(derivation_of(alloc, number, met, &plan)?));
         }
@@ -94,12 +99,15 @@ fn contradiction(
     prepared: &Prepared,
     mappings: &[Mapping],
     tables: &[Table],
+    indexes: &mut Indexes,
 ) -> Result<Option<Derivation>, AllocError>
     requires fit { AreFit mappings.now }
+    requires indexes { AreOf tables.now indexes.old }
     requires prepared { IsPrepared tbox.now mappings.now prepared.now }
     requires constraints { (c : ConstraintOf) → In c tbox.now.constraints → IsConstraintWithin prepared.now.downs.classes prepared.now.downs.links c }
     requires checkable { (c : ConstraintOf) → In c tbox.now.constraints → IsCheckable tbox.now.axioms c }
-    ensures { IfOk result (λ found. IsContradiction tbox.now mappings.now tables.now number found) }
+    ensures found { IfOk result (λ found. IsContradiction tbox.now mappings.now tables.now number found) }
+    ensures indexes { OnOk result (AreOf tables.now indexes.new) }
 {
     let Some(constraint) = item(tbox.constraints(), number) else {
         return Ok(None);
@@ -115,7 +123,9 @@ fn contradiction(
             tables,
         );
     }
-    by_sources(alloc, number, constraint, prepared, mappings, tables)
+    by_sources(
+        alloc, number, constraint, prepared, mappings, tables, indexes,
+    )
 }
 
 /// One accepted derivation for each constraint that is contradicted over the mapped facts, and none for
@@ -141,10 +151,20 @@ pub fn conflicts(
     ensures { IfOk result (AreContradictions tbox.now mappings.now tables.now (length tbox.now.constraints)) }
 {
     let prepared = Prepared::of(alloc, tbox, classes, links, mappings)?;
+    let mut indexes = Indexes::new(alloc);
     let mut found = List::new(alloc);
     for at in 0..tbox.constraints().len() {
         let number = at as u32 + 1;
-        if let Some(derivation) = contradiction(alloc, number, tbox, &prepared, mappings, tables)? {
+        let contradicted = contradiction(
+            alloc,
+            number,
+            tbox,
+            &prepared,
+            mappings,
+            tables,
+            &mut indexes,
+        )?;
+        if let Some(derivation) = contradicted {
             found.push(derivation)?;
         }
     }

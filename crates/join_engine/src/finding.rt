@@ -1,18 +1,20 @@
 //! Finding one tuple of a row query.
-ghost use Rattle.std.specs.Prelude.{◌≡◌, ◌≤◌, [], length, IfOk, MatchOption};
+ghost use Rattle.std.specs.Prelude.{◌≡◌, ◌≤◌, [], length, IfOk, MatchOption, OnOk};
 ghost use Rattle.vocabulary.specs.Lists.{In};
 ghost use Rattle.mapping_facts.specs.Fits.{RowQueryFits};
 ghost use Rattle.mapping_facts.specs.RowQueries.{row_tuples};
 ghost use Rattle.join_engine.specs.Fronts.{IsFoundBehind};
 ghost use Rattle.join_engine.specs.Heads.{IsSome};
+ghost use Rattle.join_engine.specs.Indexes.{AreOf};
 ghost use Rattle.join_engine.specs.Orders.{IsReordering};
 ghost use Rattle.join_engine.specs.Ties.{ArePlanned};
 
-use crate::choosing::{Plan, next_rows, plan_of};
+use crate::choosing::{Plan, choices_of, next_rows, plan_by};
 use crate::joining::{is_asked, is_cut};
 use crate::ordering::{Numbering, new_order};
 use crate::parting::settle_parts;
 use crate::reordering::pick;
+use crate::sharing::Indexes;
 use mapping_facts::RowQuery;
 use source_tables::Table;
 use std::alloc::{AllocError, Global};
@@ -24,7 +26,7 @@ pub(crate) fn find_behind(
     alloc: Global,
     query: &RowQuery,
     tables: &[Table],
-    plan: &Plan,
+    plan: &Plan<'_>,
     front: &mut Vec<u32>,
 ) -> Result<bool, AllocError>
     requires fits { RowQueryFits query.now }
@@ -54,11 +56,15 @@ fn some_in_order(
     alloc: Global,
     query: &RowQuery,
     tables: &[Table],
+    indexes: &mut Indexes,
 ) -> Result<Option<List<u32>>, AllocError>
-    requires { RowQueryFits query.now }
-    ensures { IfOk result (IsSome tables.now query.now) }
+    requires fits { RowQueryFits query.now }
+    requires indexes { AreOf tables.now indexes.old }
+    ensures found { IfOk result (IsSome tables.now query.now) }
+    ensures indexes { OnOk result (AreOf tables.now indexes.new) }
 {
-    let plan = plan_of(alloc, &query.query, tables)?;
+    let choices = choices_of(alloc, &query.query, tables, indexes)?;
+    let plan = plan_by(choices, indexes);
     let mut front = Vec::new(alloc);
     if !settle_parts(alloc, query, tables, &plan, &mut front)? {
         return Ok(None);
@@ -74,14 +80,17 @@ fn some_reordered(
     query: &RowQuery,
     numbering: &Numbering,
     tables: &[Table],
+    indexes: &mut Indexes,
 ) -> Result<Option<List<u32>>, AllocError>
     requires fits { RowQueryFits query.now }
+    requires indexes { AreOf tables.now indexes.old }
     requires numbering { IsReordering (length query.now.query.tables) numbering.now.order.items numbering.now.places.items }
-    ensures { IfOk result (IsSome tables.now query.now) }
+    ensures found { IfOk result (IsSome tables.now query.now) }
+    ensures indexes { OnOk result (AreOf tables.now indexes.new) }
 {
     let places = numbering.places.as_slice();
     let moved = renumber(alloc, query, numbering.order.as_slice(), places)?;
-    match some_in_order(alloc, &moved, tables)? {
+    match some_in_order(alloc, &moved, tables, indexes)? {
         Some(tuple) => Ok(Some(pick(alloc, places, tuple.items())?)),
         None => Ok(None),
     }
@@ -97,8 +106,24 @@ pub fn some_tuple(
     requires fits { RowQueryFits query.now }
     ensures { IfOk result (λ found. MatchOption found (row_tuples tables.now query.now ≡ []) (λ tuple. In tuple (row_tuples tables.now query.now))) }
 {
+    let mut indexes = Indexes::new(alloc);
+    some_tuple_by(alloc, query, tables, &mut indexes)
+}
+
+/// The same by indexes that are there, and those that it lacks are made: for a number of queries over the same tables.
+pub fn some_tuple_by(
+    alloc: Global,
+    query: &RowQuery,
+    tables: &[Table],
+    indexes: &mut Indexes,
+) -> Result<Option<List<u32>>, AllocError>
+    requires fits { RowQueryFits query.now }
+    requires indexes { AreOf tables.now indexes.old }
+    ensures found { IfOk result (λ found. MatchOption found (row_tuples tables.now query.now ≡ []) (λ tuple. In tuple (row_tuples tables.now query.now))) }
+    ensures indexes { OnOk result (AreOf tables.now indexes.new) }
+{
     match new_order(alloc, query)? {
-        Some(numbering) => some_reordered(alloc, query, &numbering, tables),
-        None => some_in_order(alloc, query, tables),
+        Some(numbering) => some_reordered(alloc, query, &numbering, tables, indexes),
+        None => some_in_order(alloc, query, tables, indexes),
     }
 }

@@ -9,15 +9,17 @@ ghost use Rattle.table_renumbering.specs.Places.{term_places};
 ghost use Rattle.table_renumbering.specs.Tuples.{GivesTerms};
 ghost use Rattle.join_engine.specs.Fronts.{asked_behind};
 ghost use Rattle.join_engine.specs.Heads.{AreHeads, GainsHeads, IsHeadWithin, are_within, is_term_within};
+ghost use Rattle.join_engine.specs.Indexes.{AreOf};
 ghost use Rattle.join_engine.specs.Orders.{IsReordering};
 ghost use Rattle.join_engine.specs.Ties.{ArePlanned};
 
-use crate::choosing::{Plan, next_rows, plan_of};
+use crate::choosing::{Plan, choices_of, next_rows, plan_by};
 use crate::finding::find_behind;
 use crate::joining::{Found, is_cut};
 use crate::ordering::{Numbering, new_order};
 use crate::parting::settle_parts;
 use crate::reordering::put_back;
+use crate::sharing::Indexes;
 use mapping_facts::{Place, RowQuery, RowTerm};
 use source_tables::Table;
 use std::alloc::{AllocError, Global};
@@ -29,7 +31,7 @@ fn add_one(
     alloc: Global,
     query: &RowQuery,
     tables: &[Table],
-    plan: &Plan,
+    plan: &Plan<'_>,
     front: &[u32],
     found: &mut List<List<u32>>,
 ) -> Result<(), AllocError>
@@ -50,7 +52,7 @@ fn walk(
     alloc: Global,
     query: &RowQuery,
     tables: &[Table],
-    plan: &Plan,
+    plan: &Plan<'_>,
     end: usize,
     front: &mut Vec<u32>,
     found: &mut List<List<u32>>,
@@ -118,11 +120,15 @@ fn heads_in_order(
     alloc: Global,
     query: &RowQuery,
     tables: &[Table],
+    indexes: &mut Indexes,
 ) -> Result<List<List<u32>>, AllocError>
     requires fits { RowQueryFits query.now }
-    ensures { IfOk result (AreHeads tables.now query.now) }
+    requires indexes { AreOf tables.now indexes.old }
+    ensures heads { IfOk result (AreHeads tables.now query.now) }
+    ensures indexes { OnOk result (AreOf tables.now indexes.new) }
 {
-    let plan = plan_of(alloc, &query.query, tables)?;
+    let choices = choices_of(alloc, &query.query, tables, indexes)?;
+    let plan = plan_by(choices, indexes);
     let mut front = Vec::new(alloc);
     let mut tuples = List::new(alloc);
     if !settle_parts(alloc, query, tables, &plan, &mut front)? {
@@ -138,14 +144,17 @@ fn heads_reordered(
     query: &RowQuery,
     numbering: &Numbering,
     tables: &[Table],
+    indexes: &mut Indexes,
 ) -> Result<List<List<u32>>, AllocError>
     requires fits { RowQueryFits query.now }
+    requires indexes { AreOf tables.now indexes.old }
     requires numbering { IsReordering (length query.now.query.tables) numbering.now.order.items numbering.now.places.items }
-    ensures { IfOk result (AreHeads tables.now query.now) }
+    ensures heads { IfOk result (AreHeads tables.now query.now) }
+    ensures indexes { OnOk result (AreOf tables.now indexes.new) }
 {
     let places = numbering.places.as_slice();
     let moved = renumber(alloc, query, numbering.order.as_slice(), places)?;
-    let tuples = heads_in_order(alloc, &moved, tables)?;
+    let tuples = heads_in_order(alloc, &moved, tables, indexes)?;
     put_back(alloc, places, tuples.items())
 }
 
@@ -153,13 +162,16 @@ fn tuples_for_head(
     alloc: Global,
     query: &RowQuery,
     tables: &[Table],
+    indexes: &mut Indexes,
 ) -> Result<List<List<u32>>, AllocError>
-    requires { RowQueryFits query.now }
-    ensures { IfOk result (AreHeads tables.now query.now) }
+    requires fits { RowQueryFits query.now }
+    requires indexes { AreOf tables.now indexes.old }
+    ensures heads { IfOk result (AreHeads tables.now query.now) }
+    ensures indexes { OnOk result (AreOf tables.now indexes.new) }
 {
     match new_order(alloc, query)? {
-        Some(numbering) => heads_reordered(alloc, query, &numbering, tables),
-        None => heads_in_order(alloc, query, tables),
+        Some(numbering) => heads_reordered(alloc, query, &numbering, tables, indexes),
+        None => heads_in_order(alloc, query, tables, indexes),
     }
 }
 
@@ -171,6 +183,23 @@ pub fn heads(alloc: Global, query: &RowQuery, tables: &[Table]) -> Result<Found,
     ensures asked { IfOk result (λ found. (tuple : ListOf ℕ) → In tuple found.tuples → In tuple (row_tuples tables.now query.now)) }
     ensures all { IfOk result (λ found. (ts : ListOf Term) → GivesTerms tables.now query.now (row_tuples tables.now query.now) ts → GivesTerms tables.now query.now found.tuples ts) }
 {
-    let tuples = tuples_for_head(alloc, query, tables)?;
+    let mut indexes = Indexes::new(alloc);
+    heads_by(alloc, query, tables, &mut indexes)
+}
+
+/// The same by indexes that are there, and those that it lacks are made: for a number of queries over the same tables.
+pub fn heads_by(
+    alloc: Global,
+    query: &RowQuery,
+    tables: &[Table],
+    indexes: &mut Indexes,
+) -> Result<Found, AllocError>
+    requires fits { RowQueryFits query.now }
+    requires indexes { AreOf tables.now indexes.old }
+    ensures asked { IfOk result (λ found. (tuple : ListOf ℕ) → In tuple found.tuples → In tuple (row_tuples tables.now query.now)) }
+    ensures all { IfOk result (λ found. (ts : ListOf Term) → GivesTerms tables.now query.now (row_tuples tables.now query.now) ts → GivesTerms tables.now query.now found.tuples ts) }
+    ensures indexes { OnOk result (AreOf tables.now indexes.new) }
+{
+    let tuples = tuples_for_head(alloc, query, tables, indexes)?;
     Ok(Found { tuples })
 }

@@ -83,7 +83,7 @@ fn find_front(
     alloc: Global,
     query: &RowQuery,
     tables: &[Table],
-    plan: &Plan,
+    plan: &Plan<'_>,
     end: usize,
     front: &mut Vec<u32>,
 ) -> Result<bool, AllocError>
@@ -115,7 +115,7 @@ fn settle(
     alloc: Global,
     query: &RowQuery,
     tables: &[Table],
-    plan: &Plan,
+    plan: &Plan<'_>,
     end: usize,
     front: &mut Vec<u32>,
 ) -> Result<bool, AllocError>
@@ -137,7 +137,7 @@ pub(crate) fn settle_parts(
     alloc: Global,
     query: &RowQuery,
     tables: &[Table],
-    plan: &Plan,
+    plan: &Plan<'_>,
     front: &mut Vec<u32>,
 ) -> Result<bool, AllocError>
     requires fits { RowQueryFits query.now }

@@ -1,6 +1,8 @@
-//! The indexes of a join: one for each column of a table by which rows are looked up.
-ghost use Rattle.std.specs.Prelude.{◌≡◌, slice_get, IfOk, IfSome, MatchOption, OnOk, None};
+//! The indexes of joins: one for each column of a table by which rows are looked up.
+ghost use Rattle.std.specs.Prelude.{◌≡◌, slice_get, IfOk, IfSome, List as ListOf, MatchOption, OnOk, None};
 ghost use Rattle.std.specs.Option.{option_copied};
+ghost use Rattle.source_tables.specs.Tables.{Loaded};
+ghost use Rattle.join_engine.specs.Indexes.{AreOf};
 ghost use Rattle.join_engine.specs.Ties.{AreIndexes, HasIndex, Keeps, is_index_of, listed_at, listed_by};
 
 use row_index::Index;
@@ -8,12 +10,43 @@ use source_tables::Table;
 use std::alloc::{AllocError, Global};
 use vocabulary::{ColId, TableId};
 
-/// An index of a column, for all tables of the query that are this one.
+// With more than this a query begins with none: an index takes memory for each row of its table.
+const MOST: usize = 16;
+
+/// An index of a column, for all tables of a query that are this one.
 #[derive(Drop)]
 pub struct Shared {
     pub table: TableId,
     pub col: ColId,
     pub index: Index,
+}
+
+/// Indexes of columns, each made when a query first asks for it and kept for later queries over the same tables.
+#[derive(Drop)]
+pub struct Indexes {
+    pub(crate) kept: Vec<Shared>,
+}
+
+impl Indexes {
+    /// None yet, of any tables.
+    #[tactic(auto, unfolding(crate::specs::Indexes::AreOf))]
+    pub fn new(alloc: Global) -> Indexes
+        ensures { (tables : ListOf Loaded) → AreOf tables result }
+    {
+        Indexes {
+            kept: Vec::new(alloc),
+        }
+    }
+
+    /// Forgets all where they are many.
+    #[tactic(auto, unfolding(crate::specs::Indexes::AreOf))]
+    pub(crate) fn make_room(&mut self)
+        ensures { (tables : ListOf Loaded) → AreOf tables self.old → AreOf tables self.new }
+    {
+        if self.kept.len() > MOST {
+            self.kept.clear();
+        }
+    }
 }
 
 fn table_at(tables: &[Table], number: TableId) -> Option<&Table>

@@ -36,11 +36,12 @@ by_sources-requires c =
     let listed = item_in c.args.tbox.now.constraints c.args.number c.in-Some.constraint.now named in
     record {
       fit = c.requires.fit;
+      indexes = c.requires.indexes;
       given = c.requires.prepared.given;
       within = c.requires.constraints c.in-Some.constraint.now listed;
       exact = subst (λ axs. HasExactSources axs c.in-Some.constraint.now) (sym c.requires.prepared.axioms) (exact_or_identified c.args.tbox.now.axioms c.in-Some.constraint.now (c.requires.checkable c.in-Some.constraint.now listed) c.in_default-constraint.not-Identified);
     }
 
-pub returns-in_default : goal.returns-in_default
-returns-in_default c =
+pub returns-in_default-clause-found : goal.returns-in_default-clause-found
+returns-in_default-clause-found c =
     no_item c.args.tbox.now c.args.mappings.now c.args.tables.now c.args.number (c.in_default.ensures ∙ ap (λ cs. item cs c.args.number) c.constraints.ensures)

@@ -1,8 +1,8 @@
-use Rattle.std.proofs.Common.{◌≡◌, ◌+◌, ◌∙◌, ap, sym, subst, length, arith}
+use Rattle.std.proofs.Common.{◌+◌, ◌∙◌, ap, sym, subst, length}
 use Rattle.std.proofs.lemmas.List.{length_push}
 use Rattle.join_engine.specs.Ties.{Serves}
 use Rattle.join_engine.proofs.Ties.{one_planned}
-use Rattle.join_engine.proofs.choosing.plan_of.Goals as goal
+use Rattle.join_engine.proofs.choosing.choose_all.Goals as goal
 
 pub loop-depth-preserved : goal.loop-depth-preserved
 loop-depth-preserved c = record {

@@ -1,7 +1,7 @@
 use Rattle.std.proofs.Common.{◌≡◌, ◌<◌, ℕ, length, get_or}
 use Rattle.join_engine.specs.declared.choosing.Choice.{Choice}
 use Rattle.join_engine.specs.Ties.{AreIndexes, Serves}
-use Rattle.join_engine.proofs.choosing.plan_of.Given as goal
+use Rattle.join_engine.proofs.choosing.choose_all.Given as goal
 
 abbrev pub invariant-loop-depth : goal.invariant-loop-depth
 invariant-loop-depth l = record {
