@@ -1,4 +1,4 @@
-//! Tests of unfolding, joining and certain answers over small tables.
+//! Tests of unfolding, joining, certain answers and their explanations over small tables.
 #![tactic(auto)]
 
 #[cfg(test)]
@@ -15,3 +15,5 @@ mod ready;
 mod small;
 #[cfg(test)]
 mod unfolding;
+#[cfg(test)]
+mod why;

@@ -47,6 +47,10 @@ answers_text tuples = lines_text (map tuple_text tuples)
 abbrev pub answers_report : List (List Term) → List ℕ
 answers_report tuples = codes "answers " ++ decimal (length tuples) ++ codes "\n"
 
+-- the answer that is explained
+abbrev pub why_report : List Term → List ℕ
+why_report tuple = codes "why " ++ tuple_text tuple ++ codes "\n"
+
 -- the text is that of the answers, one line for each tuple of which P holds; the report counts them
 pub record AreAnswers (P : List Term → Type 0) (out report : List ℕ) : Type 0 where
   pub tuples : List (List Term)

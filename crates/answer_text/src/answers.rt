@@ -1,6 +1,6 @@
 //! The text of answers, a line for each tuple.
 ghost use Rattle.std.specs.Prelude.{◌≡◌, ◌++◌, codes, map, IfOk, OnOk};
-ghost use Rattle.answer_text.specs.Answers.{answers_report, answers_text, each_behind, term_text, tuple_text};
+ghost use Rattle.answer_text.specs.Answers.{answers_report, answers_text, each_behind, term_text, tuple_text, why_report};
 
 use crate::pieces::{count_line, push, push_quoted};
 use std::alloc::{AllocError, Global};
@@ -59,4 +59,15 @@ pub fn answers_report(alloc: Global, tuples: &[List<Term>]) -> Result<List<u8>, 
     ensures { IfOk result (λ text. text ≡ answers_report tuples.now) }
 {
     count_line(alloc, "answers ", tuples.len())
+}
+
+/// The line that says which answer is explained.
+pub fn why_report(alloc: Global, tuple: &[Term]) -> Result<List<u8>, AllocError>
+    ensures { IfOk result (λ text. text ≡ why_report tuple.now) }
+{
+    let mut out = Vec::new(alloc);
+    push(&mut out, "why ")?;
+    push_tuple(&mut out, tuple)?;
+    push(&mut out, "\n")?;
+    Ok(List::from_vec(out))
 }

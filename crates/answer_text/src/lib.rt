@@ -11,7 +11,7 @@ mod pieces;
 mod query_lines;
 mod void_lines;
 
-pub use answers::{answers_report, answers_text};
+pub use answers::{answers_report, answers_text, why_report};
 pub use containment::{containment_report, containment_text};
 pub use query_lines::{QueryNames, queries_report, queries_text};
 pub use void_lines::{voids_report, voids_text};

@@ -13,14 +13,14 @@ use mapping_facts::Mapping;
 use std::alloc::{AllocError, Global};
 use vocabulary::Name;
 
-fn push_number(alloc: Global, text: &mut String, number: u32) -> Result<(), AllocError>
+fn push_number(alloc: Global, text: &mut String, number: u64) -> Result<(), AllocError>
     ensures { OnOk result (string_bytes text.new ≡ string_bytes text.old ++ decimal number) }
 {
     let digits = number.to_string(alloc)?;
     text.push_str(digits.as_str())
 }
 
-fn push_spaced(alloc: Global, text: &mut String, number: u32) -> Result<(), AllocError>
+pub(crate) fn push_spaced(alloc: Global, text: &mut String, number: u64) -> Result<(), AllocError>
     ensures { OnOk result (string_bytes text.new ≡ string_bytes text.old ++ spaced number) }
 {
     text.push_str(" ")?;
@@ -31,7 +31,7 @@ fn push_all(alloc: Global, text: &mut String, numbers: &[u32]) -> Result<(), All
     ensures { OnOk result (string_bytes text.new ≡ string_bytes text.old ++ flat_map spaced numbers.now) }
 {
     for number in numbers {
-        push_spaced(alloc, text, *number)?;
+        push_spaced(alloc, text, *number as u64)?;
     }
     Ok(())
 }
@@ -52,7 +52,7 @@ fn push_step(
     alloc: Global,
     text: &mut String,
     mappings: &[Mapping],
-    number: u32,
+    number: u64,
     step: &Step,
 ) -> Result<(), AllocError>
     ensures { OnOk result (string_bytes text.new ≡ string_bytes text.old ++ step_line (map (λ m. m.name) mappings.now) number step.now) }
@@ -66,30 +66,30 @@ fn push_step(
         } => {
             text.push_str(" map ")?;
             text.push_str(name_of(mappings, *mapping))?;
-            push_spaced(alloc, text, *target)?;
+            push_spaced(alloc, text, *target as u64)?;
             text.push_str(" rows")?;
             push_all(alloc, text, rows.items())
         }
         Step::Rule { axiom, step } => {
             text.push_str(" rule")?;
-            push_spaced(alloc, text, *axiom)?;
+            push_spaced(alloc, text, *axiom as u64)?;
             text.push_str(" from")?;
-            push_spaced(alloc, text, *step)
+            push_spaced(alloc, text, *step as u64)
         }
     }
 }
 
-fn push_steps(
+/// The lines of steps, numbered from 1.
+pub(crate) fn push_steps(
     alloc: Global,
     text: &mut String,
     mappings: &[Mapping],
     steps: &[Step],
 ) -> Result<(), AllocError>
-    requires { length steps.now < 2 ^ 32 }
     ensures { OnOk result (string_bytes text.new ≡ string_bytes text.old ++ lines_text (step_lines (map (λ m. m.name) mappings.now) 1 steps.now)) }
 {
     for (at, step) in steps.iter().enumerate() {
-        push_step(alloc, text, mappings, at as u32 + 1, step)?;
+        push_step(alloc, text, mappings, at as u64 + 1, step)?;
         text.push_str("\n")?;
     }
     Ok(())
@@ -99,7 +99,7 @@ fn push_conflict(alloc: Global, text: &mut String, constraint: u32) -> Result<()
     ensures { OnOk result (string_bytes text.new ≡ string_bytes text.old ++ (conflict_line constraint ++ codes "\n")) }
 {
     text.push_str("conflict")?;
-    push_spaced(alloc, text, constraint)?;
+    push_spaced(alloc, text, constraint as u64)?;
     text.push_str("\n")
 }
 
@@ -117,7 +117,6 @@ fn push_derivation(
     mappings: &[Mapping],
     derivation: &Derivation,
 ) -> Result<(), AllocError>
-    requires { length derivation.now.steps < 2 ^ 32 }
     ensures { OnOk result (string_bytes text.new ≡ string_bytes text.old ++ lines_text (derivation_lines (map (λ m. m.name) mappings.now) derivation.now)) }
 {
     push_conflict(alloc, text, derivation.constraint)?;

@@ -362,7 +362,7 @@ absent: review.csv
 answer conf.txt
 => 2
 --
-usage: extract P | check P | verify P D | answer P Q | rewrite P Q | make N F | lint P | contained P Q Q
+usage: extract P | check P | verify P D | answer P Q | rewrite P Q | make N F | why P Q N | lint P | contained P Q Q
 ~
 rewrite conf.txt none
 => 3

@@ -1,6 +1,7 @@
-//! What a model tells: `lint` and `contained`.
+//! What a model tells, and why an answer is one: `lint`, `contained` and `why`.
 //!
-//! Which proof is written is free. So steps are left out of what is compared, and the numbers behind `clash`.
+//! Which proof and which explanation is written is free. So steps are left out of what is compared, and the
+//! numbers of steps behind `atom I` and `clash`.
 use crate::cases::{holds, repeated, shelf_of, told};
 use std::alloc::{AllocError, Global};
 use std::test::Fail;
@@ -30,17 +31,22 @@ query some (x) where about(x, y)
 query which (x, y) where about(x, y)
 query two (x) where about(x, y), Paper(y)
 query three (x) where about(x, y), Paper(y), Review(y)
+query twice (x) where about(x, y), about(x, y)
+query any () where Review(x)
 ";
 
 fn is_step(line: &str) -> bool {
     line.starts_with(|c: char| c.is_ascii_digit()) && line.contains(' ')
 }
 
-// A line without the numbers of a clash.
+// A line without the numbers of steps.
 fn front_of(line: &str) -> &str {
-    match line.starts_with("clash ") {
-        true => "clash",
-        false => line,
+    if line.starts_with("clash ") {
+        return "clash";
+    }
+    match line.split_once(" step ") {
+        Some((front, _)) => front,
+        None => line,
     }
 }
 
@@ -139,7 +145,12 @@ refused: query nothing: Unknown
 lint q
 => 4
 --
-absent: q";
+absent: q
+~
+why p some 1
+=> 4
+--
+absent: r.csv";
 
 #[test]
 fn what_some_review_is_about_is_a_paper(rt: HostRuntime) -> Result<(), Fail> {
@@ -149,11 +160,67 @@ fn what_some_review_is_about_is_a_paper(rt: HostRuntime) -> Result<(), Fail> {
     Ok(())
 }
 
-const NO_COMMANDS: &str = "lint\nlint p q\ncontained p q\ncontained p q r s\nwhy p q 1";
+// An atom that stands twice is explained twice.
+const EXPLAINED: &str = "why p two 1
+=> 0
+atom 1
+atom 2
+end
+--
+why <http://e/r/1>
+~
+why p twice 2
+=> 0
+atom 1
+atom 2
+end
+--
+why <http://e/r/2>
+~
+why p any 1
+=> 0
+atom 1
+end
+--
+why ()
+~
+why p two 3
+=> 3
+--
+refused: answer 3: Unknown
+~
+why p which 1
+=> 3
+--
+refused: answer 1: Unknown
+~
+why p two 4294967295
+=> 3
+--
+refused: answer 4294967295: Unknown
+~
+why p none 1
+=> 3
+--
+refused: query none: Unknown";
+
+#[test]
+fn an_answer_is_explained_by_its_number(rt: HostRuntime) -> Result<(), Fail> {
+    for case in EXPLAINED.split("\n~\n") {
+        assert!(rt;
+            shows(rt.alloc(), &[("p", REVIEWS), ("r.csv", "id\n1\n2\n")], case)?,
+            "{case}"
+        );
+    }
+    Ok(())
+}
+
+const NO_COMMANDS: &str =
+    "lint\nlint p q\ncontained p q\ncontained p q r s\nwhy p q\nwhy p q 0\nwhy p q 01\nwhy p q 4294967296";
 
 const USAGE: &str = "2
 --
-usage: extract P | check P | verify P D | answer P Q | rewrite P Q | make N F | lint P | contained P Q Q
+usage: extract P | check P | verify P D | answer P Q | rewrite P Q | make N F | why P Q N | lint P | contained P Q Q
 ";
 
 fn is_usage(alloc: Global, words: &str) -> Result<bool, AllocError> {

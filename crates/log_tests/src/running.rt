@@ -49,7 +49,7 @@ const EVENT: &str = "    <event>
 const BACK: &str = "  </trace>\n</log>\n";
 
 const USAGE: &str =
-    "usage: extract P | check P | verify P D | answer P Q | rewrite P Q | make N F | lint P | contained P Q Q\n";
+    "usage: extract P | check P | verify P D | answer P Q | rewrite P Q | make N F | why P Q N | lint P | contained P Q Q\n";
 
 // Whether the command ends so over the shelf, with this text and this report.
 fn ends<S: Shelf>(
@@ -188,14 +188,16 @@ const ABSENT: &str = "extract q
 check q
 verify q p
 answer q case
-rewrite q case";
+rewrite q case
+why q case 1";
 
 // A project whose table is not there.
 const WITHOUT_TABLE: &str = "extract p
 check p
 verify p q
 answer p case
-answer p create";
+answer p create
+why p case 1";
 
 // Words that are in no line of the table; the first are none.
 const NO_COMMANDS: &str = "
@@ -221,7 +223,8 @@ make 100001 doc.csv
 make 18446744073709551617 doc.csv
 make doc.csv 5
 make 5 doc.csv x
-why p case 1
+why p case
+why p case one
 help
 p";
 

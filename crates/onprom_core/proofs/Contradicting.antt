@@ -19,7 +19,7 @@ numbered {X} (y ∷ ys) x (there stands) = by (numbered ys x stands)
     by (suc n, e, low) = (suc (suc n), e, omega arith)
 
 -- what has a number is an item
-stands_at : {X : Type 0} (xs : List X) (n : ℕ) (x : X) → item xs n ≡ Some x → In x xs
+pub stands_at : {X : Type 0} (xs : List X) (n : ℕ) (x : X) → item xs n ≡ Some x → In x xs
 stands_at xs zero x e = cc
 stands_at xs (suc n) x e = In-slice_get xs n x e
 

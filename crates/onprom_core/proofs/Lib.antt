@@ -16,6 +16,7 @@ mod Limits
 mod Numbering
 mod Asking
 mod ModelRuns
+mod WhyRuns
 mod MadeWalk
 mod MadeFiles
 mod QuerySamples

@@ -1,5 +1,5 @@
 -- What runs of `make` write, whatever the shelf holds.
-use Rattle.std.proofs.Common.{◌≡◌, refl, sym, subst, ap, ◌∙◌, ℕ, ◌≤◌, List, [], ◌∷◌, Bool, true, false, ◌||◌, codes, decimal, Option, None, Some, IfSome, Result, Ok, Err, if◌then◌else◌, inl, inr}
+use Rattle.std.proofs.Common.{◌≡◌, refl, sym, subst, ap, ◌∙◌, arith, ℕ, ◌≤◌, List, [], ◌∷◌, Bool, true, false, ◌||◌, codes, decimal, Option, None, Some, IfSome, Result, Ok, Err, if◌then◌else◌, inl, inr}
 use Rattle.std.specs.Str.{bytes_eq}
 use Rattle.std.specs.Io.KnownBytes.{Appends}
 use Rattle.outside.specs.Counts.{Rose}
@@ -17,7 +17,7 @@ use Rattle.onprom_core.specs.Headline.{Makes, Summarises, WritesAlone, WritesSum
 use Rattle.onprom_core.specs.Jobs.{Ending, EndsExtraction, EndsMade, EndsMaking, IsEnd, IsSummary, extracted, too_wide, contradicted}
 use Rattle.onprom_core.specs.Meaning.{IsConsistentProject, IsWide}
 use Rattle.onprom_core.specs.Outputs.{Works, ended}
-use Rattle.onprom_core.specs.Walk.{Files, Job, Extracting, Checking, Verifying, Answering, Rewriting, Making, Linting, Containing, command_step, extract_step, job_step, walk}
+use Rattle.onprom_core.specs.Walk.{Files, Job, Extracting, Checking, Verifying, Answering, Rewriting, Making, Explaining, Linting, Containing, command_step, extract_step, job_step, walk}
 use Rattle.onprom_core.proofs.Headlines.{Keeps-of, onward, walked}
 use Rattle.onprom_core.proofs.Numbering.{named}
 use Rattle.onprom_core.proofs.Words.{make_named}
@@ -48,7 +48,7 @@ module _ (n : ℕ) (name : List ℕ) (some : 1 ≤ n) (few : n ≤ 100_000) (mad
   words = codes "make" ∷ decimal n ∷ name ∷ []
 
   docs : docs_named words ≡ Some n
-  docs = rw made (named n some few)
+  docs = rw made (named 100_000 (omega arith) n some few)
 
   pub are_make : is_make words ≡ true
   are_make = rw docs refl
@@ -69,6 +69,7 @@ made_first files e = by (extract_step files (codes "project.txt")).end
     by (Ok (Answering project tables q)) ends = absurd ends
     by (Ok (Rewriting project name q)) ends = absurd ends
     by (Ok (Making n name)) ends = absurd ends
+    by (Ok (Explaining project tables q number)) ends = absurd ends
     by (Ok (Linting project)) ends = absurd ends
     by (Ok (Containing project first second)) ends = absurd ends
     by (Err stopped) ends = ends

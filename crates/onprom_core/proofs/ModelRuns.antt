@@ -127,7 +127,7 @@ width_back r first other second = by (length first.head == length other.head) re
     by false is e = absurd cc
 
 -- a query went on: it is the one of its name
-query_back : (project : Project) (name : List ℕ) (q : Query) → (query_step project name).end ≡ Ok q → query_named project.noted.notes name ≡ Some q
+pub query_back : (project : Project) (name : List ℕ) (q : Query) → (query_step project name).end ≡ Ok q → query_named project.noted.notes name ≡ Some q
 query_back project name q = by (query_named project.noted.notes name)
   where
     by : (o : Option Query) → (found_step name o).end ≡ Ok q → o ≡ Some q

@@ -16,7 +16,7 @@ use Rattle.project_language.specs.declared.fault.ProjectFault.{ProjectFault}
 use Rattle.project_language.specs.declared.project.Project.{Project}
 use Rattle.onprom_core.specs.declared.status.Status.TheVariants as status
 use Rattle.onprom_core.specs.declared.halt.Stopped.{Stopped}
-use Rattle.onprom_core.specs.Commands.{Extract, Check, Verify, Answer, Rewrite, Make, Lint, Contained, command_of}
+use Rattle.onprom_core.specs.Commands.{Extract, Check, Verify, Answer, Rewrite, Make, Why, Lint, Contained, command_of}
 use Rattle.onprom_core.specs.Headline.{IsAcceptedProject}
 use Rattle.onprom_core.specs.Lines.{line_refused, usage_line}
 use Rattle.onprom_core.specs.Walk.{Files, Job, check_step, extract_step, one_table, tables_step, verify_step, walk}
@@ -32,8 +32,10 @@ no_commands : map command_of ([] ∷ (codes "extract" ∷ []) ∷ (codes "extrac
 unfolding digits
 no_commands = refl
 
-more_commands : map command_of ((codes "lint" ∷ codes "p" ∷ []) ∷ (codes "lint" ∷ codes "p" ∷ codes "q" ∷ []) ∷ (codes "contained" ∷ codes "p" ∷ codes "q" ∷ codes "r" ∷ []) ∷ (codes "contained" ∷ codes "p" ∷ codes "q" ∷ []) ∷ [])
-    ≡ Some (Lint (codes "p")) ∷ None ∷ Some (Contained (codes "p") (codes "q") (codes "r")) ∷ None ∷ []
+-- a number of an answer has no leading zero, is not 0 and at most 4,294,967,295
+more_commands : map command_of ((codes "why" ∷ codes "p" ∷ codes "q" ∷ codes "4294967295" ∷ []) ∷ (codes "why" ∷ codes "p" ∷ codes "q" ∷ codes "4294967296" ∷ []) ∷ (codes "why" ∷ codes "p" ∷ codes "q" ∷ codes "01" ∷ []) ∷ (codes "lint" ∷ codes "p" ∷ []) ∷ (codes "contained" ∷ codes "p" ∷ codes "q" ∷ codes "r" ∷ []) ∷ (codes "contained" ∷ codes "p" ∷ codes "q" ∷ []) ∷ [])
+    ≡ Some (Why (codes "p") (codes "q") 4_294_967_295) ∷ None ∷ None ∷ Some (Lint (codes "p")) ∷ Some (Contained (codes "p") (codes "q") (codes "r")) ∷ None ∷ []
+unfolding digits
 more_commands = refl
 
 -- what a walk stops with, none where it comes to its job

@@ -3,7 +3,7 @@ use Rattle.std.proofs.Common.{◌≡◌, refl, sym, ◌∙◌, List, ℕ, [], �
 use Rattle.std.specs.Str.{bytes_eq}
 use Rattle.std.proofs.lemmas.Slice.Eq.{bytes_eq-Decides}
 use Rattle.onprom_core.specs.declared.status.Status.TheVariants as status
-use Rattle.onprom_core.specs.Commands.{Command, Extract, Check, Verify, Answer, Rewrite, Make, Lint, Contained, count_named, docs_named, is_answer, is_check, is_contained, is_count, is_extract, is_lint, is_made, is_make, is_rewrite, is_verify, value_behind}
+use Rattle.onprom_core.specs.Commands.{Command, Extract, Check, Verify, Answer, Rewrite, Make, Why, Lint, Contained, count_named, docs_named, is_answer, is_check, is_contained, is_count, is_extract, is_lint, is_made, is_make, is_rewrite, is_verify, number_named, value_behind}
 use Rattle.onprom_core.specs.Lines.{usage_line}
 use Rattle.onprom_core.specs.Walk.{Files, IsNoCommand, command_step, named_step, stop_usage, walk}
 
@@ -35,6 +35,38 @@ contained_named (a ∷ b ∷ []) p q r is first second third = cc
 contained_named (a ∷ b ∷ c ∷ []) p q r is first second third = cc
 contained_named (a ∷ b ∷ c ∷ d ∷ []) p q r is first second third = rw (is, first_is b p first, first_is c q second, first_is d r third) refl
 contained_named (a ∷ b ∷ c ∷ d ∷ e ∷ rest) p q r is first second third = cc
+
+-- the test of the word before that of the number
+why_tests : (contained word number : Bool) (p q r : List ℕ) (n m : ℕ) → contained ≡ false → (if word then (if number then Some n else None) else None) ≡ Some m
+    → named_step (if contained then Some (Contained p q r) else (if word && number then Some (Why p q n) else None)) ≡ named_step (Some (Why p q m))
+why_tests true word number p q r n m other e = absurd cc
+why_tests false true true p q r n m other e = let same : n ≡ m = cc in rw same refl
+why_tests false true false p q r n m other e = absurd cc
+why_tests false false number p q r n m other e = absurd cc
+
+why_fails : (contained word number : Bool) (p q r : List ℕ) (n : ℕ) → contained ≡ false → (if word then (if number then Some n else None) else None) ≡ None
+    → named_step (if contained then Some (Contained p q r) else (if word && number then Some (Why p q n) else None)) ≡ stop_usage
+why_fails true word number p q r n other e = absurd cc
+why_fails false true true p q r n other e = absurd cc
+why_fails false true false p q r n other e = refl
+why_fails false false number p q r n other e = refl
+
+-- words that begin with `why` do not begin with `contained`
+why_is : (word number : Bool) (n m : ℕ) → (if word then (if number then Some n else None) else None) ≡ Some m → word ≡ true
+why_is true number n m e = refl
+why_is false number n m e = absurd cc
+
+pub why_named : (words : List (List ℕ)) (p q : List ℕ) (number : ℕ) → number_named words ≡ Some number → slice_get words 1 ≡ Some p → slice_get words 2 ≡ Some q → (command_step words).end ≡ Ok (Why p q number)
+why_named [] p q number is first second = absurd cc
+why_named (w ∷ []) p q number is first second = absurd cc
+why_named (w ∷ b ∷ []) p q number is first second = absurd cc
+why_named (w ∷ b ∷ c ∷ []) p q number is first second = absurd cc
+why_named (w ∷ b ∷ c ∷ n ∷ []) p q number is first second =
+    let word : w ≡ codes "why" = (bytes_eq-Decides w (codes "why")).0 (why_is (bytes_eq w (codes "why")) (is_count 4_294_967_295 n) (value_behind 0 n) number is) in
+    let other : bytes_eq w (codes "contained") ≡ false = rw word refl in
+    let step = why_tests (bytes_eq w (codes "contained")) (bytes_eq w (codes "why")) (is_count 4_294_967_295 n) b c n (value_behind 0 n) number other is in
+    ap (λ s. s.end) step ∙ rw (first_is b p first, first_is c q second) refl
+why_named (w ∷ b ∷ c ∷ n ∷ d ∷ rest) p q number is first second = absurd cc
 
 pub verify_named : (words : List (List ℕ)) (p d : List ℕ) → is_verify words ≡ true → slice_get words 1 ≡ Some p → slice_get words 2 ≡ Some d → (command_step words).end ≡ Ok (Verify p d)
 verify_named [] p d is named second = cc
@@ -72,7 +104,7 @@ make_named [] docs f v a r is second = cc
 make_named (w ∷ []) docs f v a r is second = cc
 make_named (w ∷ n ∷ []) docs f v a r is second = cc
 make_named (w ∷ n ∷ g ∷ []) docs f v a r is second =
-    rw (v, a, r, make_tests (bytes_eq w (codes "make")) (is_made g) (is_count n) (value_behind 0 n) g docs is, first_is g f second) refl
+    rw (v, a, r, make_tests (bytes_eq w (codes "make")) (is_made g) (is_count 100_000 n) (value_behind 0 n) g docs is, first_is g f second) refl
 make_named (w ∷ n ∷ g ∷ d ∷ rest) docs f v a r is second = cc
 
 make_fails : (word file number : Bool) (n : ℕ) (f : List ℕ)
@@ -91,6 +123,7 @@ pub record NoneNamed (words : List (List ℕ)) : Type 0 where
   pub answer : is_answer words ≡ false
   pub rewrite : is_rewrite words ≡ false
   pub make : docs_named words ≡ None
+  pub why : number_named words ≡ None
   pub lint : is_lint words ≡ false
   pub contained : is_contained words ≡ false
 
@@ -99,8 +132,8 @@ none_named [] n = refl
 none_named (w ∷ []) n = refl
 none_named (w ∷ p ∷ []) n = rw (n.extract, n.check, n.lint) refl
 none_named (w ∷ d ∷ f ∷ []) n =
-    rw (n.verify, n.answer, n.rewrite) (make_fails (bytes_eq w (codes "make")) (is_made f) (is_count d) (value_behind 0 d) f n.make)
-none_named (w ∷ p ∷ q ∷ r ∷ []) n = rw n.contained refl
+    rw (n.verify, n.answer, n.rewrite) (make_fails (bytes_eq w (codes "make")) (is_made f) (is_count 100_000 d) (value_behind 0 d) f n.make)
+none_named (w ∷ p ∷ q ∷ r ∷ []) n = why_fails (bytes_eq w (codes "contained")) (bytes_eq w (codes "why")) (is_count 4_294_967_295 r) p q r (value_behind 0 r) n.contained n.why
 none_named (w ∷ p ∷ q ∷ r ∷ d ∷ rest) n = refl
 
 -- words of no command
@@ -123,6 +156,12 @@ extract_checks_not (a ∷ []) is = refl
 extract_checks_not (a ∷ p ∷ []) is = rw ((bytes_eq-Decides a (codes "extract")).0 is) refl
 extract_checks_not (a ∷ p ∷ q ∷ rest) is = refl
 
+pub contained_checks_not : (words : List (List ℕ)) → is_contained words ≡ true → is_check words ≡ false
+contained_checks_not [] is = refl
+contained_checks_not (a ∷ []) is = refl
+contained_checks_not (a ∷ p ∷ []) is = cc
+contained_checks_not (a ∷ p ∷ q ∷ rest) is = refl
+
 makes_word : (word file : Bool) (o : Option ℕ) → is_some (if word && file then o else None) ≡ true → word ≡ true
 makes_word true file o is = refl
 makes_word false file o is = absurd cc
@@ -133,6 +172,6 @@ make_alone [] is = (refl, refl, refl, refl, refl)
 make_alone (w ∷ []) is = (refl, refl, refl, refl, refl)
 make_alone (w ∷ n ∷ []) is = absurd cc
 make_alone (w ∷ n ∷ f ∷ []) is =
-    let word : w ≡ codes "make" = (bytes_eq-Decides w (codes "make")).0 (makes_word (bytes_eq w (codes "make")) (is_made f) (count_named n) is) in
+    let word : w ≡ codes "make" = (bytes_eq-Decides w (codes "make")).0 (makes_word (bytes_eq w (codes "make")) (is_made f) (count_named 100_000 n) is) in
     rw word (refl, refl, refl, refl, refl)
 make_alone (w ∷ n ∷ f ∷ d ∷ rest) is = (refl, refl, refl, refl, refl)

@@ -3,7 +3,7 @@ use Rattle.std.specs.Prelude.{ℕ, ◌+◌, ◌*◌, ◌-◌, ◌&&◌, nat_lt, 
 use Rattle.std.specs.List.{list_any}
 use Rattle.std.specs.Str.{bytes_eq}
 
--- a command with its file names, the names of its queries, or the number of documents and the name of a made file
+-- a command with its file names, the names of its queries and the number of an answer, or the number of documents and the name of a made file
 pub data Command : Type 0 where
   Extract : List ℕ → Command
   Check : List ℕ → Command
@@ -11,6 +11,7 @@ pub data Command : Type 0 where
   Answer : List ℕ → List ℕ → Command
   Rewrite : List ℕ → List ℕ → Command
   Make : ℕ → List ℕ → Command
+  Why : List ℕ → List ℕ → ℕ → Command
   Lint : List ℕ → Command
   Contained : List ℕ → List ℕ → List ℕ → Command
 
@@ -19,9 +20,9 @@ abbrev pub value_behind : ℕ → List ℕ → ℕ
 value_behind n [] = n
 value_behind n (digit ∷ digits) = value_behind (n * 10 + (digit - 48)) digits
 
--- the text is the decimal form, without a leading zero, of a number from 1 to 100,000
-abbrev pub is_count : List ℕ → Bool
-is_count text = bytes_eq (decimal (value_behind 0 text)) text && nat_lt 0 (value_behind 0 text) && nat_le (value_behind 0 text) 100_000
+-- the text is the decimal form, without a leading zero, of a number from 1 to the most
+abbrev pub is_count : ℕ → List ℕ → Bool
+is_count most text = bytes_eq (decimal (value_behind 0 text)) text && nat_lt 0 (value_behind 0 text) && nat_le (value_behind 0 text) most
 
 -- the files of a made project, and what is said of its log
 abbrev pub is_made : List ℕ → Bool
@@ -38,10 +39,12 @@ file_and_name word p q =
     if bytes_eq word (codes "verify") then Some (Verify p q)
     else (if bytes_eq word (codes "answer") then Some (Answer p q)
     else (if bytes_eq word (codes "rewrite") then Some (Rewrite p q)
-    else (if bytes_eq word (codes "make") && is_count p && is_made q then Some (Make (value_behind 0 p) q) else None)))
+    else (if bytes_eq word (codes "make") && is_count 100_000 p && is_made q then Some (Make (value_behind 0 p) q) else None)))
 
 abbrev pub file_and_names : List ℕ → List ℕ → List ℕ → List ℕ → Option Command
-file_and_names word p q r = if bytes_eq word (codes "contained") then Some (Contained p q r) else None
+file_and_names word p q r =
+    if bytes_eq word (codes "contained") then Some (Contained p q r)
+    else (if bytes_eq word (codes "why") && is_count 4_294_967_295 r then Some (Why p q (value_behind 0 r)) else None)
 
 -- the command that words name, if they match a line of the table
 abbrev pub command_of : List (List ℕ) → Option Command
@@ -85,13 +88,18 @@ abbrev pub is_contained : List (List ℕ) → Bool
 is_contained (word ∷ p ∷ q ∷ r ∷ []) = bytes_eq word (codes "contained")
 is_contained words = false
 
--- the number that a text names for `make`, where it names one
-abbrev pub count_named : List ℕ → Option ℕ
-count_named text = if is_count text then Some (value_behind 0 text) else None
+-- the number up to the most that a text names, where it names one
+abbrev pub count_named : ℕ → List ℕ → Option ℕ
+count_named most text = if is_count most text then Some (value_behind 0 text) else None
+
+-- the number of an answer, where the words are `why`, two more and such a number
+abbrev pub number_named : List (List ℕ) → Option ℕ
+number_named (word ∷ p ∷ q ∷ n ∷ []) = if bytes_eq word (codes "why") then count_named 4_294_967_295 n else None
+number_named words = None
 
 -- the number of documents, where the words are `make`, such a number and a made file
 abbrev pub docs_named : List (List ℕ) → Option ℕ
-docs_named (word ∷ n ∷ f ∷ []) = if bytes_eq word (codes "make") && is_made f then count_named n else None
+docs_named (word ∷ n ∷ f ∷ []) = if bytes_eq word (codes "make") && is_made f then count_named 100_000 n else None
 docs_named words = None
 
 -- the words are those of `make`

@@ -1,8 +1,8 @@
 -- The sentences of the commands, over the definitions of a project that is read, and of one that is accepted.
-use Rattle.std.specs.Prelude.{◌≡◌, ◌≢◌, ◌⊎◌, ℕ, ◌+◌, ◌≤◌, true, List, [], ◌∷◌, ◌++◌, codes, decimal, length, Option, None, Some, Ok}
+use Rattle.std.specs.Prelude.{◌≡◌, ◌≢◌, ◌⊎◌, ℕ, ◌+◌, ◌<◌, ◌≤◌, true, List, [], ◌∷◌, ◌++◌, codes, decimal, length, Option, None, Some, Ok}
 use Rattle.std.specs.Str.{is_utf8}
 use Rattle.std.specs.Io.KnownBytes.{Appends, Keeps}
-use Rattle.vocabulary.specs.Lists.{IsListOf}
+use Rattle.vocabulary.specs.Lists.{IsListOf, item}
 use Rattle.vocabulary.specs.declared.term.Term.{Term}
 use Rattle.outside.specs.Counts.{Rose}
 use Rattle.outside.specs.Files.{bytes_of}
@@ -15,7 +15,7 @@ use Rattle.queries.specs.Order.{query_cmp, tuple_cmp}
 use Rattle.perfect_rewriting.specs.Reach.{Reach}
 use Rattle.query_subsumption.specs.Kept.{NoneMaps}
 use Rattle.query_subsumption.specs.Subsumption.{AreKept}
-use Rattle.answer_text.specs.Answers.{answers_report, answers_text}
+use Rattle.answer_text.specs.Answers.{answers_report, answers_text, why_report}
 use Rattle.answer_text.specs.Containment.{containment_report, containment_text}
 use Rattle.answer_text.specs.Queries.{queries_report}
 use Rattle.answer_text.specs.Voids.{voids_report, voids_text}
@@ -27,14 +27,15 @@ use Rattle.conflict_checker.specs.declared.derivation.Derivation.{Derivation}
 use Rattle.conflict_checker.specs.Derivations.{IsAccepted}
 use Rattle.derivation_text.specs.Reading.{derivations_of}
 use Rattle.model_lint.specs.declared.element.VoidProof.{VoidProof}
+use Rattle.why_answers.specs.declared.explanation.Why.{Why}
 use Rattle.project_language.specs.declared.project.Project.{Project}
 use Rattle.project_language.specs.Project.{read_project}
 use Rattle.onprom_core.specs.declared.status.Status.{Status}
 use Rattle.onprom_core.specs.declared.status.Status.TheVariants as status
-use Rattle.onprom_core.specs.Lines.{limit_line, named_line}
+use Rattle.onprom_core.specs.Lines.{answer_refused, limit_line, named_line}
 use Rattle.onprom_core.specs.Delivery.{IsFirstEnd}
 use Rattle.onprom_core.specs.Jobs.{Ending, printed}
-use Rattle.onprom_core.specs.Meaning.{AnswerAs, AreAccepted, AreContradictions, AreVoids, IsConsistentProject, IsContainedIn, IsCoveredIn, IsExtracted, IsReadBack, IsTooWideToAnswer, IsTooWideToRewrite, IsWide, certain, contradicted_lines, mapping_names, spelled, tbox}
+use Rattle.onprom_core.specs.Meaning.{AnswerAs, AreAccepted, AreContradictions, AreVoids, ExplainsAnswer, IsConsistentProject, IsContainedIn, IsCoveredIn, IsExtracted, IsReadBack, IsTooWideToAnswer, IsTooWideToRewrite, IsWide, certain, contradicted_lines, explained, mapping_names, spelled, tbox}
 use Rattle.onprom_core.specs.Walk.{Files}
 
 -- the file is held, and not too long
@@ -193,6 +194,41 @@ Answers words files faults faults' written written' reported reported' out out' 
     → IsQuiet faults faults' written written' reported reported' → result ≢ status.NoMemory
     → ((IsTooWideToAnswer project q → ⊥) → WritesAnswers project tables q out out' report report' result)
     × (IsTooWideToAnswer project q → TellsWidth out out' report report' result)
+
+-- an explanation was written that explains the tuple, and the tuple was reported
+pub record WritesExplanation (project : Project) (tables : List Loaded) (q : Query) (tuple : List Term) (out out' report report' : Option (List ℕ)) (result : Status) : Type 0 where
+  pub done : result ≡ status.Done
+  pub why : Why
+  pub explains : ExplainsAnswer project tables q why tuple
+  pub written : Appends out out' (explained project why)
+  pub reported : Appends report report' (why_report tuple)
+
+-- there is no answer of this number, and nothing was written
+pub record TellsUnknown (number : ℕ) (out out' report report' : Option (List ℕ)) (result : Status) : Type 0 where
+  pub refused : result ≡ status.Refused
+  pub unwritten : Keeps out out'
+  pub reported : Appends report report' (answer_refused number)
+
+-- for every project that is read, each query that can be asked by its name and each number from 1 to 4,294,967,295, where no call failed
+-- and memory sufficed: why the tuple of this number among the certain answers in their order is one, or that there are fewer; the limit,
+-- where the query has too many rewritings
+abbrev pub Explains : List (List ℕ) → Files → (faults faults' written written' reported reported' : ℕ) → (out out' report report' : Option (List ℕ)) → Status → Type 0
+Explains words files faults faults' written written' reported reported' out out' report report' result =
+    (p name : List ℕ) (number : ℕ) (project : Project) (tables : List Loaded) (q : Query) → 1 ≤ number → number ≤ 4_294_967_295 → words ≡ codes "why" ∷ p ∷ name ∷ decimal number ∷ []
+    → IsReadProject files p project tables → query_named project.noted.notes name ≡ Some q
+    → IsQuiet faults faults' written written' reported reported' → result ≢ status.NoMemory
+    → ((IsTooWideToAnswer project q → ⊥) → (tuples : List (List Term)) → IsListOf tuple_cmp (certain project tables q) tuples
+    → ((tuple : List Term) → item tuples number ≡ Some tuple → WritesExplanation project tables q tuple out out' report report' result)
+    × (length tuples < number → TellsUnknown number out out' report report' result))
+    × (IsTooWideToAnswer project q → TellsWidth out out' report report' result)
+
+-- what is done explained the certain answer of the number
+abbrev pub ExplainsSoundly : List (List ℕ) → Files → (out out' report report' : Option (List ℕ)) → Status → Type 0
+ExplainsSoundly words files out out' report report' result =
+    (p name : List ℕ) (number : ℕ) → 1 ≤ number → number ≤ 4_294_967_295 → words ≡ codes "why" ∷ p ∷ name ∷ decimal number ∷ [] → result ≡ status.Done
+    → (project : Project) × (tables : List Loaded) × (q : Query) × (tuples : List (List Term)) × (tuple : List Term)
+    × IsReadProject files p project tables × (query_named project.noted.notes name ≡ Some q) × IsListOf tuple_cmp (certain project tables q) tuples × (item tuples number ≡ Some tuple)
+    × WritesExplanation project tables q tuple out out' report report' result
 
 -- the text of the file is that of the project; its tables are not asked for
 pub record IsProjectOf (files : Files) (p : List ℕ) (project : Project) : Type 0 where

@@ -1,31 +1,33 @@
 -- How the job of a run ends, once all is read.
 use Rattle.std.specs.Prelude.{◌≡◌, ◌≢◌, ◌⊎◌, ℕ, unwrap_or, List, [], ◌∷◌, ◌++◌, length, codes, decimal, Option, Some, None, Result, Ok, Err}
-use Rattle.vocabulary.specs.Lists.{IsListOf}
+use Rattle.vocabulary.specs.Lists.{IsListOf, item}
+use Rattle.vocabulary.specs.declared.term.Term.{Term}
 use Rattle.line_lexer.specs.Faults.{name_of}
 use Rattle.line_lexer.specs.declared.fault.Counted.TheVariants.{Rewriting as RewritingCount}
 use Rattle.source_tables.specs.Tables.{Loaded}
 use Rattle.queries.specs.declared.query.Query.{Query}
-use Rattle.queries.specs.Order.{query_cmp}
+use Rattle.queries.specs.Order.{query_cmp, tuple_cmp}
 use Rattle.perfect_rewriting.specs.Reach.{Reach}
 use Rattle.query_subsumption.specs.Kept.{NoneMaps}
 use Rattle.query_subsumption.specs.Subsumption.{AreKept}
 use Rattle.annotation_language.specs.Named.{variables_named}
 use Rattle.conflict_checker.specs.declared.derivation.Derivation.{Derivation}
 use Rattle.conflict_checker.specs.Derivations.{IsAccepted}
-use Rattle.answer_text.specs.Answers.{AreAnswers}
+use Rattle.answer_text.specs.Answers.{AreAnswers, why_report}
 use Rattle.answer_text.specs.Queries.{queries_report, queries_text}
 use Rattle.answer_text.specs.Containment.{containment_report, containment_text}
 use Rattle.answer_text.specs.Voids.{voids_report, voids_text}
 use Rattle.big_project.specs.Files.{file_of, made_files}
 use Rattle.big_project.specs.Summary.{first_line}
 use Rattle.model_lint.specs.declared.element.VoidProof.{VoidProof}
+use Rattle.why_answers.specs.declared.explanation.Why.{Why}
 use Rattle.project_language.specs.declared.project.Project.{Project}
 use Rattle.onprom_core.specs.declared.status.Status.{Status}
 use Rattle.onprom_core.specs.declared.status.Status.TheVariants as status
 use Rattle.onprom_core.specs.declared.halt.Stopped.{Stopped}
-use Rattle.onprom_core.specs.Lines.{limit_line, named_line}
-use Rattle.onprom_core.specs.Meaning.{AnswerAs, AreAccepted, AreContradictions, AreVoids, IsConsistentProject, IsContainedIn, IsCoveredIn, IsExtracted, IsReadBack, IsTooWideToAnswer, IsTooWideToRewrite, IsWide, certain, contradicted_lines, spelled, tbox}
-use Rattle.onprom_core.specs.Walk.{Job, Extracting, Checking, Verifying, Answering, Rewriting, Making, Linting, Containing, extract_step}
+use Rattle.onprom_core.specs.Lines.{answer_refused, limit_line, named_line}
+use Rattle.onprom_core.specs.Meaning.{AnswerAs, AreAccepted, AreContradictions, AreVoids, ExplainsAnswer, IsConsistentProject, IsContainedIn, IsCoveredIn, IsExtracted, IsReadBack, IsTooWideToAnswer, IsTooWideToRewrite, IsWide, certain, contradicted_lines, explained, spelled, tbox}
+use Rattle.onprom_core.specs.Walk.{Job, Extracting, Checking, Verifying, Answering, Rewriting, Making, Explaining, Linting, Containing, extract_step}
 
 -- a status with what is written for it
 pub record Ending : Type 0 where
@@ -93,6 +95,21 @@ pub data EndsRewriting (project : Project) (name : List ℕ) (q : Query) (e : En
       → e ≡ record { status = status.Done; out = printed project name kept; report = queries_report kept } → EndsRewriting project name q e
   too_wide : IsTooWideToRewrite project q → e ≡ wide_end → EndsRewriting project name q e
 
+-- the explanation is written, and the tuple is reported
+abbrev pub explained_end : Project → Why → List Term → Ending
+explained_end project why tuple = record { status = status.Done; out = explained project why; report = why_report tuple }
+
+-- there is no answer of this number
+abbrev pub unknown_end : ℕ → Ending
+unknown_end number = record { status = status.Refused; out = []; report = answer_refused number }
+
+-- `why`: of the certain answers in their order, the one of the number is explained; consistency is not tested
+pub data EndsWhy (project : Project) (tables : List Loaded) (q : Query) (number : ℕ) (e : Ending) : Type 0 where
+  told : (IsTooWideToAnswer project q → ⊥) → (tuples : List (List Term)) → IsListOf tuple_cmp (certain project tables q) tuples → (tuple : List Term) → item tuples number ≡ Some tuple
+      → (why : Why) → ExplainsAnswer project tables q why tuple → e ≡ explained_end project why tuple → EndsWhy project tables q number e
+  unknown : (IsTooWideToAnswer project q → ⊥) → (tuples : List (List Term)) → IsListOf tuple_cmp (certain project tables q) tuples → item tuples number ≡ None → e ≡ unknown_end number → EndsWhy project tables q number e
+  too_wide : IsTooWideToAnswer project q → e ≡ wide_end → EndsWhy project tables q number e
+
 -- the void classes and links are written, each with its proof, and their count is reported
 abbrev pub voids_end : Project → List VoidProof → Ending
 voids_end project proofs = record { status = status.Done; out = voids_text project.model.classes project.model.links proofs; report = voids_report proofs }
@@ -135,6 +152,7 @@ IsJobEnd (Verifying project tables ds) e = EndsVerification project tables ds e
 IsJobEnd (Answering project tables q) e = EndsAnswering project tables q e
 IsJobEnd (Rewriting project name q) e = EndsRewriting project name q e
 IsJobEnd (Making n name) e = EndsMaking n name (file_of n name) e
+IsJobEnd (Explaining project tables q number) e = EndsWhy project tables q number e
 IsJobEnd (Linting project) e = EndsLint project e
 IsJobEnd (Containing project first second) e = EndsContainment project first second e
 

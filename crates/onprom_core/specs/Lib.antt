@@ -13,3 +13,4 @@ pub mod Texts
 pub mod Shown
 pub mod Outputs
 pub mod Rewritten
+pub mod Explained

@@ -11,7 +11,7 @@ abbrev pub named_line : List ℕ → List ℕ → List ℕ → List ℕ
 named_line front name back = front ++ name ++ back
 
 unfoldable pub usage_line : List ℕ
-usage_line = codes "usage: extract P | check P | verify P D | answer P Q | rewrite P Q | make N F | lint P | contained P Q Q\n"
+usage_line = codes "usage: extract P | check P | verify P D | answer P Q | rewrite P Q | make N F | why P Q N | lint P | contained P Q Q\n"
 
 abbrev pub absent_line : List ℕ → List ℕ
 absent_line file = named_line (codes "absent: ") file (codes "\n")
@@ -33,6 +33,10 @@ query_refused name = codes "refused: query " ++ name ++ codes ": Unknown\n"
 -- a second query whose head is longer or shorter than that of the first
 unfoldable pub width_refused : List ℕ → List ℕ
 width_refused name = codes "refused: query " ++ name ++ codes ": HeadWidth\n"
+
+-- an answer of a number that is greater than how many there are
+unfoldable pub answer_refused : ℕ → List ℕ
+answer_refused number = codes "refused: answer " ++ decimal number ++ codes ": Unknown\n"
 
 -- a row of a table, of which row 0 is the header
 unfoldable pub row_refused : List ℕ → ℕ → List ℕ → List ℕ

@@ -26,9 +26,12 @@ use Rattle.log_assembly.specs.TheReport.{IsReport}
 use Rattle.conflict_checker.specs.declared.derivation.Derivation.{Derivation}
 use Rattle.conflict_checker.specs.Derivations.{IsAccepted}
 use Rattle.consistency_check.specs.Contradictions.{AreContradictions as ContradictionsOf}
+use Rattle.derivation_text.specs.Explaining.{explanation_text}
 use Rattle.derivation_text.specs.Reading.{derivations_of}
 use Rattle.derivation_text.specs.Writing.{derivations_text}
 use Rattle.onprom_core.specs.Lines.{named_line}
+use Rattle.why_answers.specs.Explanations.{Explains}
+use Rattle.why_answers.specs.declared.explanation.Why.{Why}
 use Rattle.model_lint.specs.Containment.{IsContained, IsCovered}
 use Rattle.model_lint.specs.Voids.{IsElement, IsVoid, Shows, elements_of, void_cmp}
 use Rattle.model_lint.specs.declared.element.Void.{Void}
@@ -67,6 +70,18 @@ IsTooWideToRewrite project q = HasWideReach (tbox project).axioms q
 abbrev pub AnswerAs : Project → Query → List Query → Type 0
 AnswerAs project q qs = (facts : List Fact) → AreKnown facts → (tuple : List Term) → IsCertain (tbox project).axioms facts q tuple ↔ HasImage facts qs tuple
 
+-- the names of the mappings
+abbrev pub mapping_names : Project → List (List ℕ)
+mapping_names project = map (λ m. m.name) project.sources.mappings
+
+-- the steps and what they have for the atoms of the query explain the tuple
+abbrev pub ExplainsAnswer : Project → List Loaded → Query → Why → List Term → Type 0
+ExplainsAnswer project tables q why tuple = Explains (tbox project) project.sources.mappings tables q why tuple
+
+-- the text of an explanation, by the names of the project's mappings
+abbrev pub explained : Project → Why → List ℕ
+explained project why = explanation_text (mapping_names project) why.steps why.atoms
+
 -- the class or the link is one of the model, and no consistent list of known facts holds a fact of it
 abbrev pub IsVoidIn : Project → Void → Type 0
 IsVoidIn project v = IsElement (length project.model.classes) (length project.model.links) v × IsVoid (tbox project) v
@@ -98,10 +113,6 @@ pub record IsExtracted (project : Project) (tables : List Loaded) (out report : 
 -- one accepted derivation for each contradicted constraint and for no other, in the order of the constraints
 abbrev pub AreContradictions : Project → List Loaded → List Derivation → Type 0
 AreContradictions project tables ds = ContradictionsOf (tbox project) project.sources.mappings tables (length (tbox project).constraints) ds
-
--- the names of the mappings
-abbrev pub mapping_names : Project → List (List ℕ)
-mapping_names project = map (λ m. m.name) project.sources.mappings
 
 -- the text of derivations, by the names of the project's mappings
 abbrev pub spelled : Project → List Derivation → List ℕ

@@ -15,7 +15,7 @@ use Rattle.onprom_core.specs.Jobs.{Ending, IsEnd, IsJobEnd}
 use Rattle.onprom_core.specs.Texts.{text_of}
 use Rattle.project_language.specs.declared.project.Project.{Project}
 use Rattle.onprom_core.specs.Steps.{Step, goes, ◌>>=◌, Halts}
-use Rattle.onprom_core.specs.Walk.{Files, Job, Extracting, Checking, Verifying, Answering, Rewriting, Linting, Containing, complete_step, file_step, query_step, sources_step, spell_step, walk, width_step}
+use Rattle.onprom_core.specs.Walk.{Files, Job, Extracting, Checking, Verifying, Answering, Rewriting, Explaining, Linting, Containing, complete_step, file_step, query_step, sources_step, spell_step, walk, width_step}
 
 -- an output as an ending
 abbrev pub ended : Output → Ending
@@ -100,6 +100,18 @@ unfoldable pub rewrite_rest : List ℕ → Project → Step Job
 rewrite_rest name project = do
   query ← query_step project name
   goes (Rewriting project name query)
+
+-- those of `why P Q N` behind its query
+unfoldable pub why_behind : Files → Project → Query → ℕ → Step Job
+why_behind files project query n = do
+  tables ← sources_step files project
+  goes (Explaining project tables query n)
+
+-- and behind its project
+unfoldable pub why_rest : Files → List ℕ → ℕ → Project → Step Job
+why_rest files name n project = do
+  query ← query_step project name
+  why_behind files project query n
 
 -- those of `lint P`
 abbrev pub lint_rest : Project → Step Job

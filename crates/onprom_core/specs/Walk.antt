@@ -23,7 +23,7 @@ use Rattle.project_language.specs.Project.{bad_line, read_project}
 use Rattle.onprom_core.specs.declared.status.Status.{Status}
 use Rattle.onprom_core.specs.declared.status.Status.TheVariants as status
 use Rattle.onprom_core.specs.declared.halt.Stopped.{Stopped}
-use Rattle.onprom_core.specs.Commands.{Command, Extract, Check, Verify, Answer, Rewrite, Make, Lint, Contained, command_of}
+use Rattle.onprom_core.specs.Commands.{Command, Extract, Check, Verify, Answer, Rewrite, Make, Why, Lint, Contained, command_of}
 use Rattle.onprom_core.specs.Lines.{usage_line, absent_line, limit_line, line_refused, query_refused, table_refused, width_refused}
 use Rattle.onprom_core.specs.Meaning.{mapping_names}
 use Rattle.onprom_core.specs.Steps.{Step, goes, stops, ◌>>=◌}
@@ -135,7 +135,7 @@ spell_step project d bytes =
     if is_utf8 bytes then spelled_step d (derivations_of (mapping_names project) bytes)
     else stop status.Refused (line_refused d (bad_line bytes) (codes "NotUtf8"))
 
--- what a run has read when it comes to its job: for `rewrite`, the query with its name; a made project is read from nothing
+-- what a run has read when it comes to its job: for `rewrite`, the query with its name; for `why`, the number of the answer; a made project is read from nothing
 pub data Job : Type 0 where
   Extracting : Project → List Loaded → Job
   Checking : Project → List Loaded → Job
@@ -143,6 +143,7 @@ pub data Job : Type 0 where
   Answering : Project → List Loaded → Query → Job
   Rewriting : Project → List ℕ → Query → Job
   Making : ℕ → List ℕ → Job
+  Explaining : Project → List Loaded → Query → ℕ → Job
   Linting : Project → Job
   Containing : Project → Query → Query → Job
 
@@ -183,6 +184,14 @@ rewrite_step files p q = do
   query ← query_step project q
   goes (Rewriting project q query)
 
+-- what is read for `answer`
+unfoldable pub why_step : Files → List ℕ → List ℕ → ℕ → Step Job
+why_step files p q n = do
+  project ← project_step files p
+  query ← query_step project q
+  tables ← sources_step files project
+  goes (Explaining project tables query n)
+
 unfoldable pub lint_step : Files → List ℕ → Step Job
 lint_step files p = do
   project ← project_step files p
@@ -205,6 +214,7 @@ job_step files (Verify p d) = verify_step files p d
 job_step files (Answer p q) = answer_step files p q
 job_step files (Rewrite p q) = rewrite_step files p q
 job_step files (Make n f) = goes (Making n f)
+job_step files (Why p q n) = why_step files p q n
 job_step files (Lint p) = lint_step files p
 job_step files (Contained p q r) = contained_step files p q r
 

@@ -14,9 +14,9 @@ use crate::halt::{Halt, Stopped};
 use crate::lines::usage_line;
 use crate::linting::lint;
 use crate::making::making;
-use crate::naming::docs_named;
+use crate::naming::{docs_named, number_named};
 use crate::output::Output;
-use crate::querying::{answer, rewrite};
+use crate::querying::{answer, explain, rewrite};
 use crate::reading::{completed, project_read, read_named, spelled_in, tables_read};
 use crate::verifying::verifying;
 use outside::{Shelf, Words};
@@ -56,6 +56,9 @@ pub(crate) fn work<S: Shelf>(alloc: Global, words: &Words, shelf: &mut S) -> Res
     }
     if is_contained(words) {
         return contain(alloc, shelf, words.get(1), words.get(2), words.get(3));
+    }
+    if let Some(number) = number_named(words) {
+        return explain(alloc, shelf, words.get(1), words.get(2), number);
     }
     if let Some(docs) = docs_named(words) {
         return Ok(making(alloc, docs, words.get(2))?);

@@ -1,7 +1,7 @@
 //! The top call: words in, a status out, and what is written on the way.
 //!
 //! [`run`] is the one call, and its contract is the promise of the tool: a clause for each command in plain words
-//! (`headline` and `sound`, `checks`, `verifies`, `answers`, `rewrites`, `lints`, `compares`, `makes`), over `specs/Headline`. `specs/Walk`
+//! (`headline` and `sound`, `checks`, `verifies`, `answers`, `rewrites`, `explains`, `lints`, `compares`, `makes`), over `specs/Headline`. `specs/Walk`
 //! has what is read in which order, and `specs/Jobs` what is done with it.
 #![tactic(auto)]
 
@@ -12,6 +12,7 @@ mod consistency;
 mod containing;
 mod deciding;
 mod deliver;
+mod explaining;
 mod extraction;
 mod halt;
 mod lines;

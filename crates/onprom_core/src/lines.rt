@@ -1,7 +1,7 @@
 //! The lines that a run stops with.
 ghost use Rattle.std.specs.Prelude.{◌≡◌, ◌++◌, IfOk, OnOk, codes, decimal};
 ghost use Rattle.line_lexer.specs.Faults.{name_of};
-ghost use Rattle.onprom_core.specs.Lines.{cell_refused, column_name, column_refused, limit_line, line_refused, named_line, query_refused, row_refused, rows_refused, table_refused, usage_line, width_refused};
+ghost use Rattle.onprom_core.specs.Lines.{answer_refused, cell_refused, column_name, column_refused, limit_line, line_refused, named_line, query_refused, row_refused, rows_refused, table_refused, usage_line, width_refused};
 
 use line_lexer::Counted;
 use outside::Bytes;
@@ -15,7 +15,7 @@ pub(crate) fn usage_line(alloc: Global) -> Result<Bytes, AllocError>
 {
     line_of(
         alloc,
-        b"usage: extract P | check P | verify P D | answer P Q | rewrite P Q | make N F | lint P | contained P Q Q\n",
+        b"usage: extract P | check P | verify P D | answer P Q | rewrite P Q | make N F | why P Q N | lint P | contained P Q Q\n",
     )
 }
 
@@ -118,6 +118,20 @@ pub(crate) fn width_refused(alloc: Global, name: &str) -> Result<Bytes, AllocErr
     ensures { IfOk result (λ bytes. bytes ≡ width_refused name.now) }
 {
     named_line(alloc, b"refused: query ", name.as_bytes(), b": HeadWidth\n")
+}
+
+/// The number of an answer, where there are fewer.
+#[tactic(auto, unfolding(crate::specs::Lines::answer_refused))]
+pub(crate) fn answer_refused(alloc: Global, number: u32) -> Result<Bytes, AllocError>
+    ensures { IfOk result (λ bytes. bytes ≡ answer_refused number) }
+{
+    let digits = number.to_string(alloc)?;
+    named_line(
+        alloc,
+        b"refused: answer ",
+        digits.as_bytes(),
+        b": Unknown\n",
+    )
 }
 
 #[tactic(auto, unfolding(crate::specs::Lines::row_refused))]

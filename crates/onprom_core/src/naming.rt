@@ -1,6 +1,6 @@
-//! The words of `make`: a number of documents, and a made file.
+//! Words that name a number: of the documents of `make`, and of the answer of `why`.
 ghost use Rattle.std.specs.Prelude.{◌≡◌, ◌&&◌, nat_le, slice_index};
-ghost use Rattle.onprom_core.specs.Commands.{count_named, docs_named, is_made};
+ghost use Rattle.onprom_core.specs.Commands.{count_named, docs_named, is_made, number_named};
 
 use outside::Words;
 
@@ -11,7 +11,17 @@ pub(crate) fn docs_named(words: &Words) -> Option<u32>
     if words.len() != 3 || words.get(0) != "make" || !is_made(words.get(2)) {
         return None;
     }
-    count_named(words.get(1))
+    count_named(words.get(1), 100_000)
+}
+
+/// The number of the answer, where the words are those of `why`.
+pub(crate) fn number_named(words: &Words) -> Option<u32>
+    ensures { result ≡ number_named words.now }
+{
+    if words.len() != 4 || words.get(0) != "why" {
+        return None;
+    }
+    count_named(words.get(3), 4_294_967_295)
 }
 
 fn is_made(name: &str) -> bool
@@ -20,15 +30,15 @@ fn is_made(name: &str) -> bool
     name == "project.txt" || name == "doc.csv" || name == "step.csv" || name == "summary"
 }
 
-// The number from 1 to 100,000 of which the text is the decimal form, without a leading zero.
-fn count_named(text: &str) -> Option<u32>
-    ensures { result ≡ count_named text.now }
+// The number from 1 to the most of which the text is the decimal form, without a leading zero.
+fn count_named(text: &str, most: u32) -> Option<u32>
+    ensures { result ≡ count_named most text.now }
 {
     if !begins(text.as_bytes()) {
         return None;
     }
     match text.parse::<u32>() {
-        Ok(docs) if 1 <= docs && docs <= 100_000 => Some(docs),
+        Ok(number) if 1 <= number && number <= most => Some(number),
         _ => None,
     }
 }

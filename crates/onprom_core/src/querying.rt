@@ -1,13 +1,14 @@
-//! The commands that ask one query: `answer` and `rewrite`.
+//! The commands that ask one query: `answer`, `why` and `rewrite`.
 ghost use Rattle.std.specs.Prelude.{◌≡◌, false, IfSome, IfOk, IfErr};
 ghost use Rattle.annotation_language.specs.Askable.{IsAskable};
 ghost use Rattle.onprom_core.specs.Causes.{CountsReading, IsLocal, SaysUsage};
-ghost use Rattle.onprom_core.specs.Outputs.{EndsWell, Works, answer_behind, answer_rest, rewrite_rest};
+ghost use Rattle.onprom_core.specs.Outputs.{EndsWell, Works, answer_behind, answer_rest, rewrite_rest, why_behind, why_rest};
 ghost use Rattle.onprom_core.specs.Steps.{Gives};
-ghost use Rattle.onprom_core.specs.Walk.{answer_step, query_step, rewrite_step};
+ghost use Rattle.onprom_core.specs.Walk.{answer_step, query_step, rewrite_step, why_step};
 ghost use Rattle.project_language.specs.Sound.{IsSound};
 
 use crate::answering::answering;
+use crate::explaining::explaining;
 use crate::halt::Halt;
 use crate::lines::query_refused;
 use crate::output::Output;
@@ -76,6 +77,70 @@ fn answer_by<S: Shelf>(
 {
     let tables = tables_read(alloc, shelf, project.sources.tables())?;
     let output = answering(alloc, project, tables.items(), query)?;
+    Ok(output)
+}
+
+/// Reads the project and its tables, and explains the answer of the number to the query of the name.
+#[tactic(auto, unfolding(crate::specs::Walk::why_step))]
+pub(crate) fn explain<S: Shelf>(
+    alloc: Global,
+    shelf: &mut S,
+    name: &str,
+    query: &str,
+    number: u32,
+) -> Result<Output, Halt>
+    ensures held { S.held shelf.new ≡ S.held shelf.old }
+    ensures told { IfSome (S.held shelf.old) (λ files. Works result (why_step files name.now query.now number)) }
+    ensures well { IfOk result (EndsWell false) }
+    ensures usage { IfErr result (λ h. SaysUsage h → ⊥) }
+    ensures counts { CountsReading (S.faults shelf.old) (S.faults shelf.new)
+        (S.absences shelf.old) (S.absences shelf.new) (S.failed shelf.new) result }
+{
+    let project = project_read(alloc, shelf, name)?;
+    explain_from(alloc, shelf, &project, query, number)
+}
+
+// Finds the query of the name, and explains its answer of the number.
+#[tactic(auto, unfolding(crate::specs::Outputs::why_rest))]
+fn explain_from<S: Shelf>(
+    alloc: Global,
+    shelf: &mut S,
+    project: &Project,
+    name: &str,
+    number: u32,
+) -> Result<Output, Halt>
+    requires { IsSound project.now }
+    ensures held { S.held shelf.new ≡ S.held shelf.old }
+    ensures told { IfSome (S.held shelf.old) (λ files. Works result (why_rest files name.now number project.now)) }
+    ensures well { IfOk result (EndsWell false) }
+    ensures usage { IfErr result (λ h. SaysUsage h → ⊥) }
+    ensures counts { CountsReading (S.faults shelf.old) (S.faults shelf.new)
+        (S.absences shelf.old) (S.absences shelf.new) (S.failed shelf.new) result }
+{
+    let query = found(alloc, project, name)?;
+    explain_by(alloc, shelf, project, query, number)
+}
+
+// Reads the tables of the project, and explains the answer of the number to the query.
+#[tactic(auto, unfolding(crate::specs::Outputs::why_behind))]
+fn explain_by<S: Shelf>(
+    alloc: Global,
+    shelf: &mut S,
+    project: &Project,
+    query: &Query,
+    number: u32,
+) -> Result<Output, Halt>
+    requires sound { IsSound project.now }
+    requires askable { IsAskable query.now }
+    ensures held { S.held shelf.new ≡ S.held shelf.old }
+    ensures told { IfSome (S.held shelf.old) (λ files. Works result (why_behind files project.now query.now number)) }
+    ensures well { IfOk result (EndsWell false) }
+    ensures usage { IfErr result (λ h. SaysUsage h → ⊥) }
+    ensures counts { CountsReading (S.faults shelf.old) (S.faults shelf.new)
+        (S.absences shelf.old) (S.absences shelf.new) (S.failed shelf.new) result }
+{
+    let tables = tables_read(alloc, shelf, project.sources.tables())?;
+    let output = explaining(alloc, project, tables.items(), query, number)?;
     Ok(output)
 }
 

@@ -5,7 +5,7 @@ ghost use Rattle.outside.specs.Counts.{Rose};
 ghost use Rattle.onprom_core.specs.Causes.{IsWhole};
 ghost use Rattle.onprom_core.specs.Commands.{is_make};
 ghost use Rattle.onprom_core.specs.Delivery.{EndsAs, EndsCut, EndsReporting, EndsEarly, ReportsFault, NamesFile, KeepsOut, Completes, AnswersNoCommand};
-ghost use Rattle.onprom_core.specs.Headline.{Answers, Checks, ChecksSoundly, Compares, ComparesSoundly, Extracts, ExtractsSoundly, Lints, LintsSoundly, Makes, Rewrites, Verifies, VerifiesSoundly};
+ghost use Rattle.onprom_core.specs.Headline.{Answers, Checks, ChecksSoundly, Compares, ComparesSoundly, Explains, ExplainsSoundly, Extracts, ExtractsSoundly, Lints, LintsSoundly, Makes, Rewrites, Verifies, VerifiesSoundly};
 ghost use Rattle.onprom_core.specs.Lines.{absent_line, fault_line, usage_line};
 ghost use Rattle.onprom_core.specs.Walk.{walk, IsNoCommand};
 
@@ -55,6 +55,13 @@ pub fn run<S: Shelf, O: Sink, R: Sink>(
     // The promise of `rewrite`: queries that give the certain answers over any known facts.
     ensures rewrites { IfSome (S.held shelf.old) (λ files. Rewrites words.now files
         (S.faults shelf.old) (S.faults shelf.new) (O.faults out.old) (O.faults out.new) (R.faults report.old) (R.faults report.new)
+        (O.written out.old) (O.written out.new) (R.written report.old) (R.written report.new) result) }
+    // The promise of `why`: why the certain answer of a number is one, or that there are fewer.
+    ensures explains { IfSome (S.held shelf.old) (λ files. Explains words.now files
+        (S.faults shelf.old) (S.faults shelf.new) (O.faults out.old) (O.faults out.new) (R.faults report.old) (R.faults report.new)
+        (O.written out.old) (O.written out.new) (R.written report.old) (R.written report.new) result) }
+    // A `why` that is done explained the certain answer of the number.
+    ensures explains_soundly { IfSome (S.held shelf.old) (λ files. ExplainsSoundly words.now files
         (O.written out.old) (O.written out.new) (R.written report.old) (R.written report.new) result) }
     // The promise of `lint`: what is void in the model of a project that is read.
     ensures lints { IfSome (S.held shelf.old) (λ files. Lints words.now files

@@ -1,9 +1,9 @@
 -- By the command that the words name.
 use Rattle.std.proofs.Common.{sym, ◌∙◌, Ok}
-use Rattle.onprom_core.specs.Commands.{Answer, Check, Contained, Extract, Lint, Make, Rewrite, Verify}
+use Rattle.onprom_core.specs.Commands.{Answer, Check, Contained, Extract, Lint, Make, Rewrite, Verify, Why}
 use Rattle.onprom_core.proofs.MadeFiles.{made_end, made_works}
 use Rattle.onprom_core.proofs.Walks.{works_from}
-use Rattle.onprom_core.proofs.Words.{answer_named, check_named, contained_named, extract_named, lint_named, make_named, no_command, no_walk, none_named, rewrite_named, verify_named}
+use Rattle.onprom_core.proofs.Words.{answer_named, check_named, contained_named, extract_named, lint_named, make_named, no_command, no_walk, none_named, rewrite_named, verify_named, why_named}
 use Rattle.onprom_core.proofs.commands.work.Goals as goal
 
 pub returns-then-is_extract-clause-told : goal.returns-then-is_extract-clause-told
@@ -55,16 +55,27 @@ returns-then-is_contained-clause-told g c =
 
 pub returns-in-Some-clause-told : goal.returns-in-Some-clause-told
 returns-in-Some-clause-told g c =
-    works_from (g.S.Shelf.held c.args.shelf.now) c.args.words.now (Make c.in-Some.docs c.get-in-Some.result.now) (Ok c.in_ok-making.field-0)
-    (make_named c.args.words.now c.in-Some.docs c.get-in-Some.result.now (sym c.is_verify.ensures ∙ c.if-is_verify.false) (sym c.is_answer.ensures ∙ c.if-is_answer.false)
-    (sym c.is_rewrite.ensures ∙ c.if-is_rewrite.false) (sym c.docs_named.ensures ∙ c.in-Some.is) c.get-in-Some.ensures)
-    (made_works (g.S.Shelf.held c.args.shelf.now) c.in-Some.docs c.get-in-Some.result.now c.in_ok-making.field-0 c.in_ok-making.ensures.ends)
+    let p = c.get-in-Some in
+    let q = c.get-in-Some-2 in
+    works_from (g.S.Shelf.held c.args.shelf.now) c.args.words.now (Why p.result.now q.result.now c.in-Some.number) c.explain.result
+    (why_named c.args.words.now p.result.now q.result.now c.in-Some.number (sym c.number_named.ensures ∙ c.in-Some.is) p.ensures q.ensures) c.explain.ensures.told
 
-pub returns-in-Some-clause-made : goal.returns-in-Some-clause-made
-returns-in-Some-clause-made g c = λ make.
-    made_end c.args.words.now c.in-Some.docs c.get-in-Some.result.now c.in_ok-making.field-0
-    (make_named c.args.words.now c.in-Some.docs c.get-in-Some.result.now (sym c.is_verify.ensures ∙ c.if-is_verify.false) (sym c.is_answer.ensures ∙ c.if-is_answer.false)
-    (sym c.is_rewrite.ensures ∙ c.if-is_rewrite.false) (sym c.docs_named.ensures ∙ c.in-Some.is) c.get-in-Some.ensures)
+pub returns-in-Some-docs_named-clause-told : goal.returns-in-Some-docs_named-clause-told
+returns-in-Some-docs_named-clause-told g c =
+    let docs = c.in-Some-docs_named in
+    let f = c.get-in-Some-docs_named in
+    works_from (g.S.Shelf.held c.args.shelf.now) c.args.words.now (Make docs.docs f.result.now) (Ok c.in_ok-making.field-0)
+    (make_named c.args.words.now docs.docs f.result.now (sym c.is_verify.ensures ∙ c.if-is_verify.false) (sym c.is_answer.ensures ∙ c.if-is_answer.false)
+    (sym c.is_rewrite.ensures ∙ c.if-is_rewrite.false) (sym c.docs_named.ensures ∙ docs.is) f.ensures)
+    (made_works (g.S.Shelf.held c.args.shelf.now) docs.docs f.result.now c.in_ok-making.field-0 c.in_ok-making.ensures.ends)
+
+pub returns-in-Some-docs_named-clause-made : goal.returns-in-Some-docs_named-clause-made
+returns-in-Some-docs_named-clause-made g c = λ make.
+    let docs = c.in-Some-docs_named in
+    let f = c.get-in-Some-docs_named in
+    made_end c.args.words.now docs.docs f.result.now c.in_ok-making.field-0
+    (make_named c.args.words.now docs.docs f.result.now (sym c.is_verify.ensures ∙ c.if-is_verify.false) (sym c.is_answer.ensures ∙ c.if-is_answer.false)
+    (sym c.is_rewrite.ensures ∙ c.if-is_rewrite.false) (sym c.docs_named.ensures ∙ docs.is) f.ensures)
     c.in_ok-making.ensures.ends
 
 pub returns-clause-told : goal.returns-clause-told
@@ -76,7 +87,8 @@ returns-clause-told g c =
       verify = sym c.is_verify.ensures ∙ c.if-is_verify.false;
       answer = sym c.is_answer.ensures ∙ c.if-is_answer.false;
       rewrite = sym c.is_rewrite.ensures ∙ c.if-is_rewrite.false;
-      make = sym c.docs_named.ensures ∙ c.in_default.is;
+      make = sym c.docs_named.ensures ∙ c.in_default-docs_named.is;
+      why = sym c.number_named.ensures ∙ c.in_default.is;
       lint = sym c.is_lint.ensures ∙ c.if-is_lint.false;
       contained = sym c.is_contained.ensures ∙ c.if-is_contained.false;
     }))
@@ -91,7 +103,8 @@ returns-clause-usage g c = λ usage.
       verify = sym c.is_verify.ensures ∙ c.if-is_verify.false;
       answer = sym c.is_answer.ensures ∙ c.if-is_answer.false;
       rewrite = sym c.is_rewrite.ensures ∙ c.if-is_rewrite.false;
-      make = sym c.docs_named.ensures ∙ c.in_default.is;
+      make = sym c.docs_named.ensures ∙ c.in_default-docs_named.is;
+      why = sym c.number_named.ensures ∙ c.in_default.is;
       lint = sym c.is_lint.ensures ∙ c.if-is_lint.false;
       contained = sym c.is_contained.ensures ∙ c.if-is_contained.false;
     }))

@@ -5,6 +5,7 @@ use Rattle.onprom_core.proofs.Judging.{checks_from, checks_soundly_from, verifie
 use Rattle.onprom_core.proofs.MadeFiles.{makes_from}
 use Rattle.onprom_core.proofs.Asking.{answers_from, rewrites_from}
 use Rattle.onprom_core.proofs.ModelRuns.{compares_from, compares_soundly_from, lints_from, lints_soundly_from}
+use Rattle.onprom_core.proofs.WhyRuns.{explains_from, explains_soundly_from}
 use Rattle.onprom_core.proofs.top.run.Goals as goal
 
 pub returns-in-Ok-clause-ends : goal.returns-in-Ok-clause-ends
@@ -130,4 +131,16 @@ returns-in-Ok-clause-lints_soundly g c =
 pub returns-in-Ok-clause-compares_soundly : goal.returns-in-Ok-clause-compares_soundly
 returns-in-Ok-clause-compares_soundly g c =
     compares_soundly_from c.args.words.now (g.O.Sink.written c.args.out.now) (g.O.Sink.written c.deliver.new.out) (g.R.Sink.written c.args.report.now) (g.R.Sink.written c.deliver.new.report)
+    c.deliver.result (shown c.in-Ok.decided) (g.S.Shelf.held c.args.shelf.now) c.in-Ok.ensures.job c.deliver.ensures.delivered
+
+pub returns-in-Ok-clause-explains : goal.returns-in-Ok-clause-explains
+returns-in-Ok-clause-explains g c =
+    explains_from c.args.words.now (g.S.Shelf.faults c.args.shelf.now) (g.S.Shelf.faults c.decide.new.shelf)
+    (g.O.Sink.faults c.args.out.now) (g.O.Sink.faults c.deliver.new.out) (g.R.Sink.faults c.args.report.now) (g.R.Sink.faults c.deliver.new.report)
+    (g.O.Sink.written c.args.out.now) (g.O.Sink.written c.deliver.new.out) (g.R.Sink.written c.args.report.now) (g.R.Sink.written c.deliver.new.report)
+    c.deliver.result (g.S.Shelf.held c.args.shelf.now) (returns-in-Ok-clause-ends g c) (returns-in-Ok-clause-complete g c)
+
+pub returns-in-Ok-clause-explains_soundly : goal.returns-in-Ok-clause-explains_soundly
+returns-in-Ok-clause-explains_soundly g c =
+    explains_soundly_from c.args.words.now (g.O.Sink.written c.args.out.now) (g.O.Sink.written c.deliver.new.out) (g.R.Sink.written c.args.report.now) (g.R.Sink.written c.deliver.new.report)
     c.deliver.result (shown c.in-Ok.decided) (g.S.Shelf.held c.args.shelf.now) c.in-Ok.ensures.job c.deliver.ensures.delivered
