@@ -1,0 +1,14 @@
+pub mod Quotes
+pub mod Pieces
+pub mod Onward
+pub mod Shapes
+pub mod Repeats
+pub mod Lists
+pub mod Judged
+pub mod Bytes
+pub mod Samples
+pub mod Formed
+pub mod Clean
+pub mod Tables
+pub mod Numbering
+pub mod Sound
