@@ -24,6 +24,8 @@ mod made;
 #[cfg(test)]
 mod models;
 #[cfg(test)]
+mod ontologies;
+#[cfg(test)]
 mod running;
 #[cfg(test)]
 mod small;

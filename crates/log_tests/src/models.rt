@@ -59,8 +59,8 @@ fn shape_of(alloc: Global, told: &str) -> Result<String, AllocError> {
     Ok(shape)
 }
 
-// Whether a run over these files tells this, but for what is free.
-fn shows(alloc: Global, files: &[(&str, &str)], case: &str) -> Result<bool, AllocError> {
+/// Whether a run over these files tells this, but for what is free.
+pub(crate) fn shows(alloc: Global, files: &[(&str, &str)], case: &str) -> Result<bool, AllocError> {
     match case.split_once("\n=> ") {
         Some((words, want)) => {
             let mut shelf = shelf_of(alloc, "", files)?;

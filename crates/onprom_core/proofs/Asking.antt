@@ -26,8 +26,8 @@ use Rattle.onprom_core.specs.Headline.{Answers, IsProjectOf, IsReadProject, Rewr
 use Rattle.onprom_core.specs.Jobs.{Ending, EndsAnswering, EndsRewriting, answered, rewritten, too_wide, wide_end}
 use Rattle.onprom_core.specs.Meaning.{IsTooWideToAnswer, IsTooWideToRewrite}
 use Rattle.onprom_core.specs.Outputs.{Works, answer_behind, answer_rest, ended, rewrite_rest}
-use Rattle.onprom_core.specs.Walk.{Files, Answering, Rewriting, answer_step, command_step, file_step, job_step, project_step, query_step, rewrite_step, sources_step, tables_step, walk}
-use Rattle.onprom_core.proofs.Headlines.{Keeps-of, file_held, onward}
+use Rattle.onprom_core.specs.Walk.{Files, Answering, Rewriting, answer_step, command_step, job_step, project_step, query_step, rewrite_step, sources_step, tables_step, walk}
+use Rattle.onprom_core.proofs.Headlines.{Keeps-of, onward, text_walked}
 use Rattle.onprom_core.proofs.Judging.{ends_well, project_walked, sources_walked, told}
 use Rattle.onprom_core.proofs.Walks.{Works-then}
 
@@ -133,7 +133,7 @@ answer_walked files p name project tables q a found =
 
 -- a project is read, whatever its tables are
 pub project_alone : (files : Files) (p : List ℕ) (project : Project) → IsProjectOf files p project → (project_step files p).end ≡ Ok project
-project_alone files p project a = onward (file_step files p) _ a.bytes _ (file_held files p a.bytes a.held) (rw a.read refl)
+project_alone files p project a = text_walked files p a.bytes project a.held a.read
 
 rewrite_walked : (files : Files) (p name : List ℕ) (project : Project) (q : Query) → IsProjectOf files p project → query_named project.noted.notes name ≡ Some q
     → (walk (codes "rewrite" ∷ p ∷ name ∷ []) files).end ≡ Ok (Rewriting project name q)

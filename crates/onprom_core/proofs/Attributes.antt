@@ -1,12 +1,11 @@
 -- Links that identify are attributes, and no fact of a link gives one of an attribute with its ends exchanged.
-use Rattle.std.proofs.Common.{◌≡◌, refl, sym, ◌∙◌, ap, subst, List, Some, slice_get}
+use Rattle.std.proofs.Common.{◌≡◌, refl, sym, ◌∙◌, ap, List, Some}
 use Rattle.vocabulary.specs.declared.ids.LinkId.{LinkId}
 use Rattle.vocabulary.specs.declared.ids.Dir.{Dir}
 use Rattle.vocabulary.specs.declared.ids.Dir.TheVariants.{Fwd, Back}
 use Rattle.vocabulary.specs.declared.ids.Side.{Side}
 use Rattle.vocabulary.specs.declared.ids.Side.TheVariants.{Object, Value}
 use Rattle.vocabulary.specs.declared.ids.ValueKind.{ValueKind}
-use Rattle.vocabulary.specs.Lists.{In}
 use Rattle.dllite_axioms.specs.declared.axioms.Axiom.{Axiom}
 use Rattle.dllite_axioms.specs.declared.axioms.Axiom.TheVariants.{SubLink}
 use Rattle.dllite_axioms.specs.Basics.{turn}

@@ -6,18 +6,20 @@ use Rattle.line_lexer.specs.Faults.{limit_of}
 use Rattle.line_lexer.specs.declared.fault.Counted.TheVariants.{File, TablesTogether}
 use Rattle.source_tables.specs.declared.decl.TableDecl.{TableDecl}
 use Rattle.source_tables.specs.Tables.{Loaded, table_of}
+use Rattle.owl_functional.specs.declared.ontology.Ontology.{Ontology}
+use Rattle.project_language.specs.Project.{ontology_file}
 use Rattle.project_language.specs.declared.project.Project.{Project}
 use Rattle.onprom_core.specs.declared.status.Status.{Status}
 use Rattle.onprom_core.specs.declared.status.Status.TheVariants as status
 use Rattle.onprom_core.specs.Causes.{IsWhole}
 use Rattle.onprom_core.specs.Commands.{Extract}
 use Rattle.onprom_core.specs.Delivery.{ComesToJob, Completes, Delivers, EndsAs, EndsJob}
-use Rattle.onprom_core.specs.Headline.{AreTables, Extracts, ExtractsSoundly, IsAcceptedProject, IsHeld, ReportsContradictions, TellsWidth, WritesLog}
+use Rattle.onprom_core.specs.Headline.{AreTables, Extracts, ExtractsSoundly, IsAcceptedProject, IsGiven, IsHeld, IsText, ReportsContradictions, TellsWidth, WritesLog}
 use Rattle.onprom_core.specs.Jobs.{EndsExtraction, Ending, extracted, too_wide, contradicted}
 use Rattle.onprom_core.specs.Meaning.{IsConsistentProject, IsWide}
 use Rattle.onprom_core.specs.Steps.{Step, ◌>>=◌}
 use Rattle.onprom_core.proofs.WalksBack.{accepted}
-use Rattle.onprom_core.specs.Walk.{Files, Extracting, command_step, complete_step, extract_step, file_step, job_step, one_table, project_step, sources_step, tables_step, walk}
+use Rattle.onprom_core.specs.Walk.{Files, Extracting, command_step, complete_step, extract_step, file_step, given_step, job_step, one_table, project_step, sources_step, tables_step, walk}
 
 not_past : (limit n : ℕ) → n ≤ limit → nat_lt limit n ≡ false
 not_past limit n within = grind arith
@@ -45,12 +47,26 @@ tables_read files before (decl ∷ decls) (table ∷ tables) all =
     onward (one_table files before decl) _ (table, before + length all.0) _ (table_read files before decl table all.0 all.1 all.2 all.3)
     (onward (tables_step files (before + length all.0) decls) _ tables _ (tables_read files (before + length all.0) decls tables all.4) refl)
 
+-- what a text names is read, and then the text
+given_walked : (files : Files) (file : Option (List ℕ)) (given : Option Ontology) → IsGiven files file given → (given_step files file).end ≡ Ok given
+unfolding given_step
+given_walked files None None is = refl
+given_walked files None (Some ontology) is = absurd is
+given_walked files (Some file) None is = absurd is
+given_walked files (Some file) (Some ontology) is = onward (file_step files file) _ is.0 _ (file_held files file is.0 is.1) (rw is.2 refl)
+
+pub text_walked : (files : Files) (p bytes : List ℕ) (project : Project) → IsHeld files p bytes → IsText files bytes project → (project_step files p).end ≡ Ok project
+unfolding project_step
+text_walked files p bytes project held text =
+    onward (file_step files p) _ bytes _ (file_held files p bytes held)
+    (onward (given_step files (ontology_file bytes)) _ text.given _ (given_walked files (ontology_file bytes) text.given text.is_given) (rw text.read refl))
+
 -- the walk of an accepted project comes to its job
 pub walked : (files : Files) (p : List ℕ) (project : Project) (tables : List Loaded) → IsAcceptedProject files p project tables → (walk (codes "extract" ∷ p ∷ []) files).end ≡ Ok (Extracting project tables)
 unfolding walk extract_step
 walked files p project tables a =
     onward (command_step (codes "extract" ∷ p ∷ [])) (job_step files) (Extract p) _ refl
-    (onward (project_step files p) _ project _ (onward (file_step files p) _ a.read.bytes _ (file_held files p a.read.bytes a.read.held) (rw a.read.read refl))
+    (onward (project_step files p) _ project _ (text_walked files p a.read.bytes project a.read.held a.read.read)
     (onward (complete_step p project) _ project _ (rw a.complete refl)
     (onward (sources_step files project) _ tables _ (tables_read files 0 project.sources.tables tables a.read.loaded) refl)))
 

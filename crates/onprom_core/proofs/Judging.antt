@@ -14,13 +14,13 @@ use Rattle.onprom_core.specs.Delivery.{ComesToJob, Completes, Delivers, EndsAs, 
 use Rattle.onprom_core.specs.Headline.{AreReadDerivations, Checks, ChecksSoundly, IsQuiet, IsReadProject, TellsAccepted, TellsConsistency, TellsRefused, Verifies, VerifiesSoundly, WritesContradictions}
 use Rattle.onprom_core.specs.Jobs.{Ending, EndsCheck, EndsVerification, IsJobEnd, accepted, consistent, contradicted, refused}
 use Rattle.onprom_core.specs.Meaning.{AreAccepted, IsConsistentProject}
-use Rattle.onprom_core.proofs.Headlines.{Keeps-of, file_held, onward, tables_read}
+use Rattle.onprom_core.proofs.Headlines.{Keeps-of, file_held, onward, tables_read, text_walked}
 use Rattle.onprom_core.proofs.WalksBack.{checked, verified}
 use Rattle.onprom_core.specs.Walk.{Files, Job, Checking, Verifying, check_step, command_step, file_step, job_step, project_step, sources_step, spell_step, verify_step, walk}
 
 -- the project of a file is read
 pub project_walked : (files : Files) (p : List ℕ) (project : Project) (tables : List Loaded) → IsReadProject files p project tables → (project_step files p).end ≡ Ok project
-project_walked files p project tables a = onward (file_step files p) _ a.bytes _ (file_held files p a.bytes a.held) (rw a.read refl)
+project_walked files p project tables a = text_walked files p a.bytes project a.held a.read
 
 pub sources_walked : (files : Files) (p : List ℕ) (project : Project) (tables : List Loaded) → IsReadProject files p project tables → (sources_step files project).end ≡ Ok tables
 sources_walked files p project tables a = tables_read files 0 project.sources.tables tables a.loaded

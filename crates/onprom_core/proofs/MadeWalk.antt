@@ -20,7 +20,7 @@ use Rattle.source_tables.specs.declared.decl.TableDecl.{TableDecl}
 use Rattle.source_tables.specs.declared.fault.TableFault.{TableFault}
 use Rattle.source_tables.specs.declared.fault.TableFault.TheVariants as tf
 use Rattle.source_tables.specs.Tables.{Loaded, table_of}
-use Rattle.project_language.specs.Project.{open_lines, read_lines, read_project}
+use Rattle.project_language.specs.Project.{name_lines, name_text, ontology_file, open_lines, read_lines, read_project}
 use Rattle.project_language.specs.declared.fault.ProjectFault.{ProjectFault}
 use Rattle.project_language.specs.declared.fault.ProjectFault.TheVariants as pf
 use Rattle.project_language.specs.declared.project.Project.{Project}
@@ -36,7 +36,7 @@ use Rattle.onprom_core.specs.Lines.{limit_line}
 use Rattle.onprom_core.specs.Outputs.{EndsWell, Works, ended}
 use Rattle.onprom_core.specs.Steps.{Step, bind_end, goes, ◌>>=◌}
 use Rattle.onprom_core.specs.Texts.{text_of}
-use Rattle.onprom_core.specs.Walk.{Files, Job, Extracting, complete_step, extract_step, file_step, held_step, lack_step, loaded_step, one_table, project_step, read_step, sources_step, stop, table_step, tables_step, together_step}
+use Rattle.onprom_core.specs.Walk.{Files, Job, Extracting, complete_step, extract_step, file_step, given_step, held_step, lack_step, loaded_step, one_table, project_of, project_step, read_step, sources_step, stop, table_step, tables_step, together_step}
 use Rattle.onprom_core.proofs.WalksBack.{back, held_back, lack_back, read_back}
 
 -- what comes of a step is no absent file
@@ -129,24 +129,37 @@ holds_tables files (Ok project) = are_held files project.sources.tables
 holds_tables files (Err fault) = true
 
 -- the extraction of a project that is held with the files of its tables
-extract_present : (files : Files) (p text : List ℕ) → bytes_of files p ≡ Some text → holds_tables files (read_project text) ≡ true → IsPresent (extract_step files p).end
-unfolding extract_step
-extract_present files p text held tables =
+extract_present : (files : Files) (p text : List ℕ) → bytes_of files p ≡ Some text → ontology_file text ≡ None → holds_tables files (read_project text) ≡ true → IsPresent (extract_step files p).end
+unfolding extract_step project_step given_step
+extract_present files p text held alone tables =
     behind (project_step files p) _ project (λ v is.
     behind (complete_step p v) _ (lack_present p v (lack_of v.noted.notes)) (λ whole kept.
     behind (sources_step files whole) _ (tables_present files 0 whole.sources.tables (whole_tables v is whole kept)) (λ read _. tt)))
   where
+    same_text : (bytes : List ℕ) → (file_step files p).end ≡ Ok bytes → text ≡ bytes
+    same_text bytes is = let at : bytes_of files p ≡ Some bytes = (held_back files p bytes is).0 in cc
+
+    none_present : (bytes : List ℕ) → (file_step files p).end ≡ Ok bytes → IsPresent (given_step files (ontology_file bytes)).end
+    none_present bytes is = rw (← same_text bytes is, alone) tt
+
     project : IsPresent (project_step files p).end
-    project = behind (file_step files p) _ (held_present p (bytes_of files p) (rw held refl)) (λ bytes _. read_present p (read_project bytes))
+    project =
+        behind (file_step files p) _ (held_present p (bytes_of files p) (rw held refl)) (λ bytes is.
+        behind (given_step files (ontology_file bytes)) _ (none_present bytes is) (λ given _. read_present p (project_of bytes given)))
 
     whole_tables : (v : Project) → (project_step files p).end ≡ Ok v → (whole : Project) → (complete_step p v).end ≡ Ok whole → are_held files whole.sources.tables ≡ true
     whole_tables v is whole kept =
         let r = back (file_step files p) _ v is in
-        let at : bytes_of files p ≡ Some r.0 = (held_back files p r.0 r.1).0 in
-        let same : text ≡ r.0 = cc in
-        let read : read_project text ≡ Ok v = rw same (read_back p v (read_project r.0) r.2) in
+        let same = same_text r.0 r.1 in
+        let none : ontology_file r.0 ≡ None = rw (← same) alone in
+        let read : read_project text ≡ Ok v = rw same (read_back p v (read_project r.0) (rw none at r.2)) in
         let stays = (lack_back p v whole (lack_of v.noted.notes) kept).1 in
         subst (λ x. are_held files x.sources.tables ≡ true) stays (rw read at tables)
+
+-- the made project names no ontology
+made_alone : ontology_file project_file ≡ None
+unfolding project_file chars tokens_behind token_front open_lines name_lines name_text is_utf8 lib.Utf8.encode
+made_alone = refl
 
 -- the made project holds the files of its tables
 made_tables : (n : ℕ) → holds_tables (made_files n) (read_project project_file) ≡ true
@@ -154,7 +167,7 @@ unfolding project_file chars tokens_behind token_front model_lines.model_line mo
 made_tables n = refl
 
 pub made_present : (n : ℕ) → IsPresent (extract_step (made_files n) (codes "project.txt")).end
-made_present n = extract_present (made_files n) (codes "project.txt") project_file refl (made_tables n)
+made_present n = extract_present (made_files n) (codes "project.txt") project_file refl made_alone (made_tables n)
 
 -- the walk comes to an extraction, where it comes to a job
 extracts : (files : Files) (p : List ℕ) (job : Job) → (extract_step files p).end ≡ Ok job → (project : Project) × (tables : List Loaded) × (job ≡ Extracting project tables)

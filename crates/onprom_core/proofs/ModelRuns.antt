@@ -17,7 +17,6 @@ use Rattle.model_lint.specs.Containment.{IsContained, IsCovered}
 use Rattle.model_lint.specs.Voids.{AreVoids as VoidsOf, HaveAttributes}
 use Rattle.model_lint.specs.declared.element.VoidProof.{VoidProof}
 use Rattle.project_language.specs.declared.project.Project.{Project}
-use Rattle.project_language.specs.Project.{read_project}
 use Rattle.project_language.specs.Sound.{IsSound}
 use Rattle.onprom_core.specs.declared.halt.Halt.{Halt}
 use Rattle.onprom_core.specs.declared.output.Output.{Output}
@@ -32,13 +31,13 @@ use Rattle.onprom_core.specs.Lines.{width_refused}
 use Rattle.onprom_core.specs.Meaning.{IsContainedIn, IsTooWideToRewrite, tbox}
 use Rattle.onprom_core.specs.Outputs.{Works, contained_rest, ended, lint_rest}
 use Rattle.onprom_core.specs.Rewritten.{done_with}
-use Rattle.onprom_core.specs.Walk.{Files, Job, Containing, Linting, command_step, contained_step, file_step, found_step, job_step, lint_step, project_step, query_step, stop, walk, width_step}
+use Rattle.onprom_core.specs.Walk.{Files, Job, Containing, Linting, command_step, contained_step, found_step, job_step, lint_step, project_step, query_step, stop, walk, width_step}
 use Rattle.onprom_core.specs.Steps.{goes}
 use Rattle.onprom_core.proofs.Asking.{project_alone, width_told}
 use Rattle.onprom_core.proofs.Headlines.{onward}
 use Rattle.onprom_core.proofs.Judging.{ends_well, told}
 use Rattle.onprom_core.proofs.Walks.{Works-then}
-use Rattle.onprom_core.proofs.WalksBack.{back, held_back, job_back, read_back}
+use Rattle.onprom_core.proofs.WalksBack.{back, job_back, text_back}
 
 -- `lint` does what the steps behind its project do
 pub lint_from : (held : Option Files) (p : List ℕ) (project : Project) (result : Result Output Halt) → IfSome held (λ files. (project_step files p).end ≡ Ok project) → Works result (lint_rest project)
@@ -66,20 +65,20 @@ compared_from project q r first second output one other alike ends =
 -- the axioms and constraints of a sound project are such that void classes and links can be sought
 module _ (project : Project) (sound : IsSound project) (t : Tbox) (same : t ≡ tbox project) where
   pub few_axioms : length t.axioms < 2 ^ 32 - 1
-  few_axioms = rw same (let few = sound.model.few_axioms in omega arith)
+  few_axioms = rw same (let few = sound.tbox.few_axioms in omega arith)
 
   pub few_constraints : length t.constraints < 2 ^ 32 - 1
-  few_constraints = rw same (let few = sound.model.few_constraints in omega arith)
+  few_constraints = rw same (let few = sound.tbox.few_constraints in omega arith)
 
   pub axioms_within : (a : Axiom) → In a t.axioms → IsAxiomWithin (length project.model.classes) (length project.model.links) a
-  axioms_within a stands = sound.model.axioms_within a (rw same at stands)
+  axioms_within a stands = sound.tbox.axioms_within a (rw same at stands)
 
   pub constraints_within : (c : Constraint) → In c t.constraints → IsConstraintWithin (length project.model.classes) (length project.model.links) c
-  constraints_within c stands = sound.model.constraints_within c (rw same at stands)
+  constraints_within c stands = sound.tbox.constraints_within c (rw same at stands)
 
   -- an identification has an attribute
   have_attributes : HaveAttributes (tbox project).constraints
-  have_attributes a stands = let some = (sound.model.constraints_sorted (Identified a []) stands).some in absurd (omega arith)
+  have_attributes a stands = let some = (sound.tbox.constraints_sorted (Identified a []) stands).some in absurd (omega arith)
 
   -- what is void is printed
   pub ends_linted : (proofs : List VoidProof) (e : Ending) → VoidsOf t (length project.model.classes) (length project.model.links) proofs
@@ -137,8 +136,8 @@ query_back project name q = by (query_named project.noted.notes name)
 -- a project went on, whatever its tables are
 alone_back : (files : Files) (p : List ℕ) (project : Project) → (project_step files p).end ≡ Ok project → IsProjectOf files p project
 alone_back files p project e =
-    let r = back (file_step files p) _ project e in
-    record { bytes = r.0; held = held_back files p r.0 r.1; read = read_back p project (read_project r.0) r.2 }
+    let t = text_back files p project e in
+    record { bytes = t.0; held = t.1; read = t.2 }
 
 -- the walks come to their jobs
 lint_walked : (files : Files) (p : List ℕ) (project : Project) → IsProjectOf files p project → (walk (codes "lint" ∷ p ∷ []) files).end ≡ Ok (Linting project)

@@ -17,8 +17,8 @@ use Rattle.onprom_core.specs.Meaning.{AreContradictions, IsReadBack, mapping_nam
 module _ (project : Project) (tables : List Loaded) (sound : IsSound project) (few : All (λ t. length t.rows ≤ 1_000_000) tables) where
   numbered : AreNumbered (tbox project) project.sources.mappings tables
   numbered =
-      let a = sound.model.few_axioms in
-      let c = sound.model.few_constraints in record {
+      let a = sound.tbox.few_axioms in
+      let c = sound.tbox.few_constraints in record {
         axioms = omega arith;
         constraints = omega arith;
         fit = sound.fit;

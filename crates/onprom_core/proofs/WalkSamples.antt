@@ -11,7 +11,7 @@ use Rattle.mapping_language.specs.Tables as map_tables
 use Rattle.annotation_language.specs.Grammar as note_grammar
 use Rattle.annotation_language.specs.Lines as note_lines
 use Rattle.derivation_text.specs.Reading as derivations
-use Rattle.project_language.specs.Project.{nothing, open_lines, read_lines, read_project}
+use Rattle.project_language.specs.Project.{nothing, name_lines, name_text, open_lines, read_lines, read_project}
 use Rattle.project_language.specs.declared.fault.ProjectFault.{ProjectFault}
 use Rattle.project_language.specs.declared.project.Project.{Project}
 use Rattle.onprom_core.specs.declared.status.Status.TheVariants as status
@@ -19,7 +19,7 @@ use Rattle.onprom_core.specs.declared.halt.Stopped.{Stopped}
 use Rattle.onprom_core.specs.Commands.{Extract, Check, Verify, Answer, Rewrite, Make, Why, Lint, Contained, command_of}
 use Rattle.onprom_core.specs.Headline.{IsAcceptedProject}
 use Rattle.onprom_core.specs.Lines.{line_refused, usage_line}
-use Rattle.onprom_core.specs.Walk.{Files, Job, check_step, extract_step, one_table, tables_step, verify_step, walk}
+use Rattle.onprom_core.specs.Walk.{Files, Job, check_step, extract_step, one_table, tables_step, verify_step, walk, given_step, project_step}
 
 -- each command; a number of documents has no leading zero, is not 0 and at most 100,000
 commands : map command_of ((codes "extract" ∷ codes "p" ∷ []) ∷ (codes "check" ∷ codes "p" ∷ []) ∷ (codes "verify" ∷ codes "p" ∷ codes "d" ∷ []) ∷ (codes "answer" ∷ codes "p" ∷ codes "q" ∷ []) ∷ (codes "rewrite" ∷ codes "p" ∷ codes "q" ∷ []) ∷ (codes "make" ∷ codes "100000" ∷ codes "summary" ∷ []) ∷ [])
@@ -52,7 +52,7 @@ unfolding walk
 usage = refl
 
 absent : extract (codes "p") [] ≡ Some (record { status = status.Absent; line = codes "absent: p\n" })
-unfolding walk extract_step
+unfolding walk project_step given_step extract_step
 absent = refl
 
 -- a project with these lines
@@ -60,22 +60,34 @@ abbrev held : List ℕ → Files
 held text = (codes "p", text) ∷ []
 
 syntax : extract (codes "p") (held (codes "x")) ≡ Some (record { status = status.Refused; line = codes "refused: p line 1: Syntax\n" })
-unfolding digits walk extract_step line_refused chars tokens_behind token_front open_lines read_lines read_project is_utf8 lib.Utf8.encode
+unfolding digits walk project_step given_step extract_step line_refused chars tokens_behind token_front open_lines name_lines name_text read_lines read_project is_utf8 lib.Utf8.encode
 syntax = refl
 
 -- annotations without a case lack it in no line
 lacking : extract (codes "p") (held (codes "onprom 1\nclass A")) ≡ Some (record { status = status.Refused; line = codes "refused: p line 0: NoCase\n" })
-unfolding digits walk extract_step line_refused chars tokens_behind token_front model_lines.model_line model_rules.broken open_lines read_lines read_project is_utf8 lib.Utf8.encode
+unfolding digits walk project_step given_step extract_step line_refused chars tokens_behind token_front model_lines.model_line model_rules.broken open_lines name_lines name_text read_lines read_project is_utf8 lib.Utf8.encode
 lacking = refl
 
 -- a table is begun behind the project, and only then
 table_begun : (walk (codes "extract" ∷ codes "p" ∷ []) (held (codes "onprom 1\ntable t \"t.csv\"\ncolumn t a text\nclass A\ncase c where A(c)\n"))).begun ≡ codes "p" ∷ codes "t.csv" ∷ []
-unfolding walk extract_step one_table tables_step chars tokens_behind token_front map_grammar.source_line map_grammar.table_line map_grammar.column_line map_tables.broken map_tables.grown at_most model_lines.model_line model_rules.broken note_grammar.atom note_grammar.of_any note_grammar.of_one note_grammar.annotation_line note_lines.broken note_lines.grown open_lines read_lines read_project is_utf8 lib.Utf8.encode
+unfolding walk project_step given_step extract_step one_table tables_step chars tokens_behind token_front map_grammar.source_line map_grammar.table_line map_grammar.column_line map_tables.broken map_tables.grown at_most model_lines.model_line model_rules.broken note_grammar.atom note_grammar.of_any note_grammar.of_one note_grammar.annotation_line note_lines.broken note_lines.grown open_lines name_lines name_text read_lines read_project is_utf8 lib.Utf8.encode
 table_begun = refl
+
+-- the file of a model is begun behind the project, and before the lines behind it are read
+abbrev of_model : List ℕ
+of_model = codes "onprom 1\nontology \"m\"\nclass"
+
+model_absent : extract (codes "p") (held of_model) ≡ Some (record { status = status.Absent; line = codes "absent: m\n" })
+unfolding digits walk project_step given_step extract_step chars tokens_behind token_front open_lines name_lines name_text is_utf8 lib.Utf8.encode
+model_absent = refl
+
+model_begun : (walk (codes "extract" ∷ codes "p" ∷ []) (held of_model)).begun ≡ codes "p" ∷ codes "m" ∷ []
+unfolding walk project_step given_step extract_step chars tokens_behind token_front open_lines name_lines name_text is_utf8 lib.Utf8.encode
+model_begun = refl
 
 -- where all is read, the walk comes to its job
 done : extract (codes "p") (held (codes "onprom 1\nclass A\ncase c where A(c)\n")) ≡ None
-unfolding walk extract_step tables_step chars tokens_behind token_front model_lines.model_line model_rules.broken at_most note_grammar.atom note_grammar.of_any note_grammar.of_one note_grammar.annotation_line note_lines.broken note_lines.grown open_lines read_lines read_project is_utf8 lib.Utf8.encode
+unfolding walk project_step given_step extract_step tables_step chars tokens_behind token_front model_lines.model_line model_rules.broken at_most note_grammar.atom note_grammar.of_any note_grammar.of_one note_grammar.annotation_line note_lines.broken note_lines.grown open_lines name_lines name_text read_lines read_project is_utf8 lib.Utf8.encode
 done = refl
 
 -- `check` asks for no annotations, and a constraint is read as any other line
@@ -83,7 +95,7 @@ abbrev clashing : List ℕ
 clashing = codes "onprom 1\nclass A\nclass B\ndisjoint A B\n"
 
 checked : stopped_with (walk (codes "check" ∷ codes "p" ∷ []) (held clashing)).end ≡ None
-unfolding walk check_step tables_step chars tokens_behind token_front model_lines.model_line model_rules.broken open_lines read_lines read_project is_utf8 lib.Utf8.encode
+unfolding walk project_step given_step check_step tables_step chars tokens_behind token_front model_lines.model_line model_rules.broken open_lines name_lines name_text read_lines read_project is_utf8 lib.Utf8.encode
 checked = refl
 
 -- the derivations of `verify` are read behind the project and its tables
@@ -91,11 +103,11 @@ abbrev verified : Files → Option Stopped
 verified files = stopped_with (walk (codes "verify" ∷ codes "p" ∷ codes "d" ∷ []) files).end
 
 no_derivations : verified (held clashing) ≡ Some (record { status = status.Absent; line = codes "absent: d\n" })
-unfolding walk verify_step tables_step chars tokens_behind token_front model_lines.model_line model_rules.broken open_lines read_lines read_project is_utf8 lib.Utf8.encode
+unfolding walk project_step given_step verify_step tables_step chars tokens_behind token_front model_lines.model_line model_rules.broken open_lines name_lines name_text read_lines read_project is_utf8 lib.Utf8.encode
 no_derivations = refl
 
 no_end : verified ((codes "p", clashing) ∷ (codes "d", codes "conflict 1\n") ∷ []) ≡ Some (record { status = status.Refused; line = codes "refused: d line 2: Syntax\n" })
-unfolding digits walk verify_step tables_step line_refused chars tokens_behind token_front model_lines.model_line model_rules.broken open_lines read_lines read_project derivations.line_said derivations.read_lines is_utf8 lib.Utf8.encode
+unfolding digits walk project_step given_step verify_step tables_step line_refused chars tokens_behind token_front model_lines.model_line model_rules.broken open_lines name_lines name_text read_lines read_project derivations.line_said derivations.read_lines is_utf8 lib.Utf8.encode
 no_end = refl
 
 -- the project that was read, where one was
@@ -108,5 +120,5 @@ small = codes "onprom 1\nclass A\ncase c where A(c)\n"
 
 -- a project that is accepted: it is held and read, it has no tables, and its annotations lack nothing
 accepted : IsAcceptedProject (held small) (codes "p") (project_or_none (read_project small)) []
-unfolding chars tokens_behind token_front model_lines.model_line model_rules.broken at_most note_grammar.atom note_grammar.of_any note_grammar.of_one note_grammar.annotation_line note_lines.broken note_lines.grown open_lines read_lines read_project is_utf8 lib.Utf8.encode
-accepted = record { read = record { bytes = small; held = (refl, omega arith); read = refl; loaded = tt }; complete = refl }
+unfolding chars tokens_behind token_front model_lines.model_line model_rules.broken at_most note_grammar.atom note_grammar.of_any note_grammar.of_one note_grammar.annotation_line note_lines.broken note_lines.grown open_lines name_lines name_text read_lines read_project is_utf8 lib.Utf8.encode
+accepted = record { read = record { bytes = small; held = (refl, omega arith); read = record { given = None; is_given = tt; read = refl }; loaded = tt }; complete = refl }

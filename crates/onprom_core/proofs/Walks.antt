@@ -1,10 +1,11 @@
 -- A walk whose first steps went on does what its last steps do.
-use Rattle.std.proofs.Common.{◌≡◌, refl, ◌∙◌, ℕ, List, [], ◌∷◌, ◌++◌, Option, None, Some, IfSome, Result, Ok, Err, Contains, append_assoc, ◌≤◌, length, get_or, ◌-◌, drop, take, arith}
+use Rattle.std.proofs.Common.{◌≡◌, refl, ◌∙◌, ℕ, List, [], ◌∷◌, ◌++◌, Option, None, Some, IfSome, Result, Ok, Err, IsErrAnd, Contains, append_assoc, ◌≤◌, length, get_or, ◌-◌, drop, take, arith}
 use Rattle.std.proofs.lemmas.List.{take_all}
 use Rattle.std.proofs.lemmas.List.Elements.{Contains-append_left, Contains-append_right}
 use Rattle.source_tables.specs.declared.decl.TableDecl.{TableDecl}
 use Rattle.source_tables.specs.Tables.{Loaded}
 use Rattle.conflict_checker.specs.declared.derivation.Derivation.{Derivation}
+use Rattle.project_language.specs.Project.{ontology_file}
 use Rattle.project_language.specs.declared.project.Project.{Project}
 use Rattle.onprom_core.specs.declared.output.Output.{Output}
 use Rattle.onprom_core.specs.declared.halt.Stopped.{Stopped}
@@ -13,8 +14,8 @@ use Rattle.onprom_core.specs.declared.halt.Halt.TheVariants as halt
 use Rattle.onprom_core.specs.Commands.{Command}
 use Rattle.onprom_core.specs.Jobs.{EndsCheck, EndsExtraction, EndsVerification}
 use Rattle.onprom_core.specs.Outputs.{Adds, Works, check_rest, ended, extract_rest, verify_behind, verify_rest}
-use Rattle.onprom_core.specs.Steps.{Step, ◌>>=◌, bind_end, Halts}
-use Rattle.onprom_core.specs.Walk.{Files, Job, Extracting, Checking, Verifying, check_step, command_step, complete_step, extract_step, file_step, job_step, one_table, project_step, sources_step, spell_step, tables_step, verify_step, walk}
+use Rattle.onprom_core.specs.Steps.{Step, ◌>>=◌, bind_end, Gives, Halts}
+use Rattle.onprom_core.specs.Walk.{Files, Job, Extracting, Checking, Verifying, check_step, command_step, complete_step, extract_step, file_step, given_step, job_step, one_table, project_step, sources_step, spell_step, tables_step, verify_step, walk}
 
 -- what stops a later step stops the whole
 pub Halts-then : {A Y : Type 0} (m : Step A) (f : A → Step Y) (v : A) (h : Halt) → m.end ≡ Ok v → Halts h (f v) → Halts h (m >>= f)
@@ -107,6 +108,15 @@ module _ (held : Option Files) (project : Project) (tables : List Loaded) where
       by (Some files) got =
           Works-then (file_step files d) _ bytes (Ok output) got (
           Works-then (spell_step project d bytes) _ ds (Ok output) read (Verifying project tables ds, refl, ends))
+
+-- what stops the reading of an ontology stops that of its project
+pub given_stops : (held : Option Files) (p bytes : List ℕ) (h : Halt) (r : Result Project Halt) → IsErrAnd r (λ other. other ≡ h) → IfSome held (λ files. (file_step files p).end ≡ Ok bytes)
+    → IfSome held (λ files. Halts h (given_step files (ontology_file bytes))) → IfSome held (λ files. Gives (λ v. v) r (project_step files p))
+unfolding project_step
+given_stops None p bytes h r is read halts = tt
+given_stops (Some files) p bytes h (Ok project) is read halts = absurd is
+given_stops (Some files) p bytes h (Err other) is read halts =
+    rw is (Halts-then (file_step files p) _ bytes h read (Halts-early (given_step files (ontology_file bytes)) _ h halts))
 
 -- the tables behind one that was read
 pub adds_from : (held : Option Files) (before total : ℕ) (decl : TableDecl) (decls : List TableDecl) (table : Loaded) (old new : List Loaded) (r : Result (Unit {0}) Halt)

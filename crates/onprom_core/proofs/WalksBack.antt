@@ -14,18 +14,22 @@ use Rattle.conflict_checker.specs.declared.derivation.Derivation.{Derivation}
 use Rattle.derivation_text.specs.declared.fault.DerivationFault.{DerivationFault}
 use Rattle.derivation_text.specs.declared.fault.DerivationFault.TheVariants as df
 use Rattle.derivation_text.specs.Reading.{derivations_of}
+use Rattle.owl_functional.specs.declared.fault.OwlFault.{OwlFault}
+use Rattle.owl_functional.specs.declared.fault.OwlFault.TheVariants as of
+use Rattle.owl_functional.specs.declared.ontology.Ontology.{Ontology}
+use Rattle.owl_functional.specs.Ontology.{read_ontology}
 use Rattle.project_language.specs.declared.fault.ProjectFault.{ProjectFault}
 use Rattle.project_language.specs.declared.fault.ProjectFault.TheVariants as pf
 use Rattle.project_language.specs.declared.project.Project.{Project}
-use Rattle.project_language.specs.Project.{bad_line, read_project}
+use Rattle.project_language.specs.Project.{bad_line, ontology_file}
 use Rattle.onprom_core.specs.declared.halt.Stopped.{Stopped}
 use Rattle.onprom_core.specs.declared.status.Status.TheVariants as status
 use Rattle.onprom_core.specs.Commands.{Command, Check, Extract, Verify}
-use Rattle.onprom_core.specs.Headline.{AreReadDerivations, AreTables, IsAcceptedProject, IsHeld, IsReadProject}
+use Rattle.onprom_core.specs.Headline.{AreReadDerivations, AreTables, IsAcceptedProject, IsGiven, IsHeld, IsReadProject, IsText}
 use Rattle.onprom_core.specs.Lines.{limit_line, line_refused}
 use Rattle.onprom_core.specs.Meaning.{mapping_names}
 use Rattle.onprom_core.specs.Steps.{Step, bind_end, goes, ◌>>=◌}
-use Rattle.onprom_core.specs.Walk.{Files, Job, Checking, Extracting, Verifying, check_step, command_step, complete_step, extract_step, file_step, held_step, job_step, lack_step, loaded_step, one_table, project_step, read_step, sources_step, spell_step, spelled_step, stop, table_step, tables_step, together_step, verify_step, walk}
+use Rattle.onprom_core.specs.Walk.{Files, Job, Checking, Extracting, Verifying, check_step, command_step, complete_step, extract_step, file_step, given_step, held_step, job_step, lack_step, loaded_step, one_table, ontology_step, project_of, project_step, read_step, sources_step, spell_step, spelled_step, stop, table_step, tables_step, together_step, verify_step, walk}
 
 -- a step behind a step: both went on
 pub back : {A B : Type 0} (m : Step A) (f : A → Step B) (w : B) → (m >>= f).end ≡ Ok w → (v : A) × (m.end ≡ Ok v) × ((f v).end ≡ Ok w)
@@ -131,13 +135,51 @@ tables_back files before (decl ∷ decls) tables e =
     let all : a.0.0 ∷ b.0 ≡ tables = cc in
     subst (AreTables files before (decl ∷ decls)) all (one.0, one.1, one.2, one.3, subst (λ n. AreTables files n decls b.0) one.4 rest)
 
+-- an ontology went on: it is the one of its text
+ontology_back : (file : List ℕ) (v : Ontology) (o : Result Ontology OwlFault) → (ontology_step file o).end ≡ Ok v → o ≡ Ok v
+ontology_back file v (Ok ontology) e = cc
+ontology_back file v (Err (of.NotUtf8 line)) e = absurd cc
+ontology_back file v (Err (of.Syntax line)) e = absurd cc
+ontology_back file v (Err (of.Unsupported line)) e = absurd cc
+ontology_back file v (Err (of.BadName line)) e = absurd cc
+ontology_back file v (Err (of.DoubleName line)) e = absurd cc
+ontology_back file v (Err (of.Undeclared line)) e = absurd cc
+ontology_back file v (Err (of.FunctionalSpecialised line)) e = absurd cc
+ontology_back file v (Err (of.Limit what)) e = absurd cc
+ontology_back file v (Err of.NoMemory) e = absurd cc
+
+-- what a text names went on: it is read
+given_back : (files : Files) (file : Option (List ℕ)) (given : Option Ontology) → (given_step files file).end ≡ Ok given → IsGiven files file given
+unfolding given_step
+given_back files None None e = tt
+given_back files None (Some ontology) e = absurd cc
+given_back files (Some file) given e = by given b.2
+  where
+    b : (bytes : List ℕ) × ((file_step files file).end ≡ Ok bytes) × ((ontology_step file (read_ontology bytes) >>= (λ ontology. goes (Some ontology))).end ≡ Ok given)
+    b = back (file_step files file) _ given e
+
+    by : (given : Option Ontology) → (ontology_step file (read_ontology b.0) >>= (λ ontology. goes (Some ontology))).end ≡ Ok given → IsGiven files (Some file) given
+    by None e = let r = back (ontology_step file (read_ontology b.0)) _ None e in absurd cc
+    by (Some ontology) e =
+        let r = back (ontology_step file (read_ontology b.0)) _ (Some ontology) e in
+        let same : r.0 ≡ ontology = cc in
+        (b.0, held_back files file b.0 b.1, ontology_back file ontology (read_ontology b.0) (r.1 ∙ ap (λ x. Ok x) same))
+
+-- a project went on: it is the one of a text that is held
+pub text_back : (files : Files) (p : List ℕ) (project : Project) → (project_step files p).end ≡ Ok project → (bytes : List ℕ) × IsHeld files p bytes × IsText files bytes project
+unfolding project_step
+text_back files p project e =
+    let r = back (file_step files p) _ project e in
+    let g = back (given_step files (ontology_file r.0)) _ project r.2 in
+    (r.0, held_back files p r.0 r.1, record { given = g.0; is_given = given_back files (ontology_file r.0) g.0 g.1; read = read_back p project (project_of r.0 g.0) g.2 })
+
 -- the project and its tables went on: they are read
 pub project_back : (files : Files) (p : List ℕ) (project : Project) (tables : List Loaded) → (project_step files p).end ≡ Ok project → (sources_step files project).end ≡ Ok tables → IsReadProject files p project tables
 project_back files p project tables first second =
-    let r = back (file_step files p) _ project first in record {
-      bytes = r.0;
-      held = held_back files p r.0 r.1;
-      read = read_back p project (read_project r.0) r.2;
+    let t = text_back files p project first in record {
+      bytes = t.0;
+      held = t.1;
+      read = t.2;
       loaded = tables_back files 0 project.sources.tables tables second;
     }
 

@@ -28,15 +28,17 @@ use Rattle.conflict_checker.specs.Derivations.{IsAccepted}
 use Rattle.derivation_text.specs.Reading.{derivations_of}
 use Rattle.model_lint.specs.declared.element.VoidProof.{VoidProof}
 use Rattle.why_answers.specs.declared.explanation.Why.{Why}
+use Rattle.owl_functional.specs.declared.ontology.Ontology.{Ontology}
+use Rattle.owl_functional.specs.Ontology.{read_ontology}
 use Rattle.project_language.specs.declared.project.Project.{Project}
-use Rattle.project_language.specs.Project.{read_project}
+use Rattle.project_language.specs.Project.{ontology_file}
 use Rattle.onprom_core.specs.declared.status.Status.{Status}
 use Rattle.onprom_core.specs.declared.status.Status.TheVariants as status
 use Rattle.onprom_core.specs.Lines.{answer_refused, limit_line, named_line}
 use Rattle.onprom_core.specs.Delivery.{IsFirstEnd}
 use Rattle.onprom_core.specs.Jobs.{Ending, printed}
 use Rattle.onprom_core.specs.Meaning.{AnswerAs, AreAccepted, AreContradictions, AreVoids, ExplainsAnswer, IsConsistentProject, IsContainedIn, IsCoveredIn, IsExtracted, IsReadBack, IsTooWideToAnswer, IsTooWideToRewrite, IsWide, certain, contradicted_lines, explained, mapping_names, spelled, tbox}
-use Rattle.onprom_core.specs.Walk.{Files}
+use Rattle.onprom_core.specs.Walk.{Files, project_of}
 
 -- the file is held, and not too long
 abbrev pub IsHeld : Files → List ℕ → List ℕ → Type 0
@@ -50,11 +52,24 @@ AreTables files before (decl ∷ decls) [] = ⊥
 AreTables files before (decl ∷ decls) (table ∷ tables) = (bytes : List ℕ) × IsHeld files decl.file bytes
     × (before + length bytes ≤ limit_of TablesTogether) × (table_of decl bytes ≡ Ok table) × AreTables files (before + length bytes) decls tables
 
+-- the ontology that a text names by this file, where it names one, and none where it names none
+abbrev pub IsGiven : Files → Option (List ℕ) → Option Ontology → Type 0
+IsGiven files None None = Unit {0}
+IsGiven files None (Some ontology) = ⊥
+IsGiven files (Some file) None = ⊥
+IsGiven files (Some file) (Some ontology) = (bytes : List ℕ) × IsHeld files file bytes × (read_ontology bytes ≡ Ok ontology)
+
+-- the project that a text is: by its own lines where it names no ontology, else over the ontology that it names
+pub record IsText (files : Files) (bytes : List ℕ) (project : Project) : Type 0 where
+  pub given : Option Ontology
+  pub is_given : IsGiven files (ontology_file bytes) given
+  pub read : project_of bytes given ≡ Ok project
+
 -- the text of the project has no fault, and each of its tables is one
 pub record IsReadProject (files : Files) (p : List ℕ) (project : Project) (tables : List Loaded) : Type 0 where
   pub bytes : List ℕ
   pub held : IsHeld files p bytes
-  pub read : read_project bytes ≡ Ok project
+  pub read : IsText files bytes project
   pub loaded : AreTables files 0 project.sources.tables tables
 
 -- a project that is accepted for `extract`: it is read, and its annotations lack nothing
@@ -234,7 +249,7 @@ ExplainsSoundly words files out out' report report' result =
 pub record IsProjectOf (files : Files) (p : List ℕ) (project : Project) : Type 0 where
   pub bytes : List ℕ
   pub held : IsHeld files p bytes
-  pub read : read_project bytes ≡ Ok project
+  pub read : IsText files bytes project
 
 -- queries were written, and their count was reported: those of the reach, in its order, for which no other stands. Over every known
 -- list of facts they give exactly the certain answers, and none of them maps into another

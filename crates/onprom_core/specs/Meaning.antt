@@ -8,7 +8,6 @@ use Rattle.vocabulary.specs.declared.term.Term.{Term}
 use Rattle.dllite_axioms.specs.declared.axioms.Tbox.{Tbox}
 use Rattle.dllite_axioms.specs.Chase.{AreKnown}
 use Rattle.dllite_axioms.specs.Clashes.{IsConsistent}
-use Rattle.uml_model.specs.Axioms.{axioms_of, constraints_of}
 use Rattle.source_tables.specs.Tables.{Loaded}
 use Rattle.mapping_facts.specs.Facts.{mapped_facts}
 use Rattle.queries.specs.declared.query.Query.{Query}
@@ -36,11 +35,12 @@ use Rattle.model_lint.specs.Containment.{IsContained, IsCovered}
 use Rattle.model_lint.specs.Voids.{IsElement, IsVoid, Shows, elements_of, void_cmp}
 use Rattle.model_lint.specs.declared.element.Void.{Void}
 use Rattle.model_lint.specs.declared.element.VoidProof.{VoidProof}
+use Rattle.project_language.specs.Meant.{tbox as meant_tbox}
 use Rattle.project_language.specs.declared.project.Project.{Project}
 
--- what the model lines mean
+-- what its ontology gives, where it names one, else what its model lines mean
 abbrev pub tbox : Project → Tbox
-tbox project = record { axioms = axioms_of project.model.lines; constraints = constraints_of project.model.lines }
+tbox project = meant_tbox project
 
 -- of what its queries are asked
 abbrev pub specified : Project → Specified

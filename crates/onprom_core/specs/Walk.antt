@@ -16,10 +16,14 @@ use Rattle.conflict_checker.specs.declared.derivation.Derivation.{Derivation}
 use Rattle.derivation_text.specs.declared.fault.DerivationFault.{DerivationFault}
 use Rattle.derivation_text.specs.declared.fault.DerivationFault.TheVariants as text_fault
 use Rattle.derivation_text.specs.Reading.{derivations_of}
+use Rattle.owl_functional.specs.declared.fault.OwlFault.{OwlFault}
+use Rattle.owl_functional.specs.declared.fault.OwlFault.TheVariants as owl_fault
+use Rattle.owl_functional.specs.declared.ontology.Ontology.{Ontology}
+use Rattle.owl_functional.specs.Ontology.{read_ontology}
 use Rattle.project_language.specs.declared.fault.ProjectFault.{ProjectFault}
 use Rattle.project_language.specs.declared.fault.ProjectFault.TheVariants.{NotUtf8, Line, Limit, NoMemory}
 use Rattle.project_language.specs.declared.project.Project.{Project}
-use Rattle.project_language.specs.Project.{bad_line, read_project}
+use Rattle.project_language.specs.Project.{bad_line, ontology_file, read_project, read_project_over}
 use Rattle.onprom_core.specs.declared.status.Status.{Status}
 use Rattle.onprom_core.specs.declared.status.Status.TheVariants as status
 use Rattle.onprom_core.specs.declared.halt.Stopped.{Stopped}
@@ -61,10 +65,38 @@ read_step p (Err (Line line kind)) = stop status.Refused (line_refused p line (k
 read_step p (Err (Limit what)) = stop status.Limit (limit_line (name_of what))
 read_step p (Err NoMemory) = stop status.NoMemory []
 
-abbrev pub project_step : Files → List ℕ → Step Project
+-- the ontology of a text, or its first fault
+abbrev pub ontology_step : List ℕ → Result Ontology OwlFault → Step Ontology
+ontology_step file (Ok ontology) = goes ontology
+ontology_step file (Err (owl_fault.NotUtf8 line)) = stop status.Refused (line_refused file line (codes "NotUtf8"))
+ontology_step file (Err (owl_fault.Syntax line)) = stop status.Refused (line_refused file line (codes "Syntax"))
+ontology_step file (Err (owl_fault.Unsupported line)) = stop status.Refused (line_refused file line (codes "Unsupported"))
+ontology_step file (Err (owl_fault.BadName line)) = stop status.Refused (line_refused file line (codes "BadName"))
+ontology_step file (Err (owl_fault.DoubleName line)) = stop status.Refused (line_refused file line (codes "DoubleName"))
+ontology_step file (Err (owl_fault.Undeclared line)) = stop status.Refused (line_refused file line (codes "Undeclared"))
+ontology_step file (Err (owl_fault.FunctionalSpecialised line)) = stop status.Refused (line_refused file line (codes "FunctionalSpecialised"))
+ontology_step file (Err (owl_fault.Limit what)) = stop status.Limit (limit_line (name_of what))
+ontology_step file (Err owl_fault.NoMemory) = stop status.NoMemory []
+
+-- the ontology of the file that a text names, where it names one
+unfoldable pub given_step : Files → Option (List ℕ) → Step (Option Ontology)
+given_step files None = goes None
+given_step files (Some file) = do
+  bytes ← file_step files file
+  ontology ← ontology_step file (read_ontology bytes)
+  goes (Some ontology)
+
+-- what a text says by its own lines, or over an ontology
+abbrev pub project_of : List ℕ → Option Ontology → Result Project ProjectFault
+project_of bytes None = read_project bytes
+project_of bytes (Some ontology) = read_project_over bytes ontology
+
+-- the file of an `ontology` line is begun behind the project, and before the other lines are read
+unfoldable pub project_step : Files → List ℕ → Step Project
 project_step files p = do
   bytes ← file_step files p
-  read_step p (read_project bytes)
+  given ← given_step files (ontology_file bytes)
+  read_step p (project_of bytes given)
 
 -- the annotations of the project lack nothing
 abbrev pub lack_step : List ℕ → Project → Option Lack → Step Project

@@ -19,7 +19,6 @@ use project_language::Project;
 use queries::Query;
 use source_tables::Table;
 use std::alloc::{AllocError, Global};
-use uml_model::axioms_of;
 use vocabulary::{List, Term};
 
 /// The certain answers of a query over the tables of a project, which may contradict it.
@@ -34,7 +33,7 @@ pub(crate) fn answering(
     ensures ends { IfOk result (λ o. EndsAnswering project.now tables.now query.now (ended o)) }
     ensures well { IfOk result (EndsWell false) }
 {
-    let tbox = axioms_of(alloc, &project.model)?;
+    let tbox = project.tbox(alloc)?;
     let specification = specification(alloc, &tbox, project)?;
     match answers(alloc, &specification, tables, query) {
         Ok(found) => answered(alloc, found.tuples.items()),

@@ -14,7 +14,6 @@ use outside::Bytes;
 use project_language::Project;
 use source_tables::Table;
 use std::alloc::{AllocError, Global};
-use uml_model::axioms_of;
 use vocabulary::List;
 
 /// Whether a project is consistent over its tables, and what contradicts it.
@@ -27,7 +26,7 @@ pub(crate) fn checking(
     ensures ends { IfOk result (λ o. EndsCheck project.now tables.now (ended o)) }
     ensures well { IfOk result (EndsWell true) }
 {
-    let tbox = axioms_of(alloc, &project.model)?;
+    let tbox = project.tbox(alloc)?;
     let found = contradictions(alloc, &tbox, project, tables)?;
     if found.is_empty() {
         return consistent(alloc);

@@ -24,7 +24,6 @@ use perfect_rewriting::RewriteFault;
 use project_language::Project;
 use queries::Query;
 use std::alloc::{AllocError, Global};
-use uml_model::axioms_of;
 
 /// Reads the project, and tells whether the first query is contained in the second.
 #[tactic(auto, unfolding(crate::specs::Walk::contained_step))]
@@ -80,12 +79,13 @@ fn containing(
     first: &Query,
     second: &Query,
 ) -> Result<Output, AllocError>
+    requires sound { IsSound project.now }
     requires first { IsAskable first.now }
     requires second { IsAskable second.now }
     ensures ends { IfOk result (λ o. EndsContainment project.now first.now second.now (ended o)) }
     ensures well { IfOk result (EndsWell false) }
 {
-    let tbox = axioms_of(alloc, &project.model)?;
+    let tbox = project.tbox(alloc)?;
     match contained(alloc, &tbox, first, second) {
         Ok(place) => said(alloc, place),
         Err(RewriteFault::TooWide) => too_wide(alloc),

@@ -25,7 +25,6 @@ use project_language::Project;
 use queries::Query;
 use source_tables::Table;
 use std::alloc::{AllocError, Global};
-use uml_model::axioms_of;
 use vocabulary::{List, Term};
 use why_answers::{Why, why};
 
@@ -42,7 +41,7 @@ pub(crate) fn explaining(
     ensures ends { IfOk result (λ o. EndsWhy project.now tables.now query.now number (ended o)) }
     ensures well { IfOk result (EndsWell false) }
 {
-    let tbox = axioms_of(alloc, &project.model)?;
+    let tbox = project.tbox(alloc)?;
     let specification = specification(alloc, &tbox, project)?;
     match answers(alloc, &specification, tables, query) {
         Ok(found) => numbered(

@@ -20,7 +20,6 @@ use perfect_rewriting::RewriteFault;
 use project_language::Project;
 use source_tables::Table;
 use std::alloc::{AllocError, Global};
-use uml_model::axioms_of;
 
 /// The log of a project over its tables, whose annotations lack nothing, or what contradicts it.
 pub(crate) fn extraction(
@@ -32,7 +31,7 @@ pub(crate) fn extraction(
     ensures ends { IfOk result (λ o. EndsExtraction project.now tables.now (ended o)) }
     ensures well { IfOk result (EndsWell false) }
 {
-    let tbox = axioms_of(alloc, &project.model)?;
+    let tbox = project.tbox(alloc)?;
     let found = contradictions(alloc, &tbox, project, tables)?;
     if found.is_empty() {
         return logged(alloc, &tbox, project, tables);

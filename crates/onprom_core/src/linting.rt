@@ -19,7 +19,6 @@ use model_lint::{VoidProof, voids};
 use outside::Shelf;
 use project_language::Project;
 use std::alloc::{AllocError, Global};
-use uml_model::axioms_of;
 use vocabulary::List;
 
 /// Reads the project, and proves of each void class and link that it is void.
@@ -52,7 +51,7 @@ fn linting(alloc: Global, project: &Project) -> Result<Output, AllocError>
     ensures ends { IfOk result (λ o. EndsLint project.now (ended o)) }
     ensures well { IfOk result (EndsWell false) }
 {
-    let tbox = axioms_of(alloc, &project.model)?;
+    let tbox = project.tbox(alloc)?;
     let found = voids(alloc, &tbox, project.model.classes(), project.model.links())?;
     listed(alloc, project, found.items())
 }

@@ -1,15 +1,17 @@
 //! Reading what a run needs.
-ghost use Rattle.std.specs.Prelude.{◌≡◌, ◌+◌, ◌≤◌, IfSome, IfOk, IfErr, length, map};
+ghost use Rattle.std.specs.Prelude.{◌≡◌, ◌≢◌, ◌+◌, ◌≤◌, IfSome, IfOk, IfErr, Ok, Err, length, map};
 ghost use Rattle.onprom_core.specs.Causes.{CountsReading, IsLocal, SaysUsage};
 ghost use Rattle.onprom_core.specs.Outputs.{Adds, Passes, Refuses};
 ghost use Rattle.onprom_core.specs.Steps.{Gives};
-ghost use Rattle.onprom_core.specs.Walk.{complete_step, file_step, one_table, project_step, read_step, spell_step, spelled_step, table_step, tables_step, together_step};
+ghost use Rattle.onprom_core.specs.Walk.{complete_step, file_step, given_step, one_table, ontology_step, project_of, project_step, read_step, spell_step, spelled_step, table_step, tables_step, together_step};
 ghost use Rattle.jiff_core.specs.Calendar.{IsWithin};
 ghost use Rattle.line_lexer.specs.Faults.{limit_of};
 ghost use Rattle.line_lexer.specs.declared.fault.Counted.TheVariants.{File, TablesTogether};
 ghost use Rattle.derivation_text.specs.Reading.{derivations_of};
 ghost use Rattle.onprom_core.specs.Meaning.{mapping_names};
-ghost use Rattle.project_language.specs.Project.{bad_line, read_project};
+ghost use Rattle.owl_functional.specs.Ontology.{read_ontology};
+ghost use Rattle.owl_functional.specs.Sound.{IsOntology};
+ghost use Rattle.project_language.specs.Project.{bad_line, ontology_file};
 ghost use Rattle.project_language.specs.Sound.{IsSound};
 ghost use Rattle.std.specs.List.{All};
 ghost use Rattle.std.specs.Str.Lossy.{utf8_valid_len};
@@ -22,11 +24,13 @@ use conflict_checker::Derivation;
 use derivation_text::{DerivationFault, read};
 use line_lexer::{Counted, LineFault};
 use outside::{Bytes, FileFault, Shelf, read_file};
-use project_language::{Project, ProjectFault, read_project};
+use owl_functional::{Ontology, OwlFault, read_ontology};
+use project_language::{Project, ProjectFault, ontology_file, read_project, read_project_over};
 use source_tables::{Table, TableDecl, TableFault, load};
 use std::alloc::{AllocError, Global};
 use vocabulary::List;
 
+#[tactic(auto, unfolding(crate::specs::Walk::project_step))]
 pub(crate) fn project_read<S: Shelf>(
     alloc: Global,
     shelf: &mut S,
@@ -40,17 +44,83 @@ pub(crate) fn project_read<S: Shelf>(
         (S.absences shelf.old) (S.absences shelf.new) (S.failed shelf.new) result }
 {
     let bytes = read_named(alloc, shelf, name)?;
-    project_of(alloc, name, bytes.slice())
+    let given = given_to(alloc, shelf, bytes.slice())?;
+    project_of(alloc, name, bytes.slice(), given)
 }
 
-fn project_of(alloc: Global, name: &str, bytes: &[u8]) -> Result<Project, Halt>
+// The ontology that a text names, where it names one.
+#[tactic(auto, unfolding(crate::specs::Walk::given_step))]
+fn given_to<S: Shelf>(alloc: Global, shelf: &mut S, bytes: &[u8]) -> Result<Option<Ontology>, Halt>
     requires { length bytes.now ≤ limit_of File }
-    ensures told { Gives (λ p. p) result (read_step name.now (read_project bytes.now)) }
+    ensures held { S.held shelf.new ≡ S.held shelf.old }
+    ensures told { IfSome (S.held shelf.old) (λ files. Gives (λ given. given) result (given_step files (ontology_file bytes.now))) }
+    ensures sound { IfOk result (λ given. IfSome given IsOntology) }
+    ensures usage { IfErr result (λ h. SaysUsage h → ⊥) }
+    ensures counts { CountsReading (S.faults shelf.old) (S.faults shelf.new)
+        (S.absences shelf.old) (S.absences shelf.new) (S.failed shelf.new) result }
+{
+    let Some(file) = ontology_file(alloc, bytes)? else {
+        return Ok(None);
+    };
+    let text = read_named(alloc, shelf, file.text())?;
+    let ontology = ontology_of(alloc, file.text(), text.slice())?;
+    Ok(Some(ontology))
+}
+
+fn ontology_of(alloc: Global, file: &str, bytes: &[u8]) -> Result<Ontology, Halt>
+    requires { length bytes.now ≤ limit_of File }
+    ensures told { Gives (λ ontology. ontology) result (ontology_step file.now (read_ontology bytes.now)) }
+    ensures sound { IfOk result IsOntology }
+    ensures usage { IfErr result (λ h. SaysUsage h → ⊥) }
+    ensures local { IfErr result IsLocal }
+{
+    match read_ontology(alloc, bytes) {
+        Ok(ontology) => Ok(ontology),
+        Err(OwlFault::NotUtf8(line)) => refuse(line_refused(alloc, file, line, "NotUtf8")?),
+        Err(OwlFault::Syntax(line)) => refuse(line_refused(alloc, file, line, "Syntax")?),
+        Err(OwlFault::Unsupported(line)) => refuse(line_refused(alloc, file, line, "Unsupported")?),
+        Err(OwlFault::BadName(line)) => refuse(line_refused(alloc, file, line, "BadName")?),
+        Err(OwlFault::DoubleName(line)) => refuse(line_refused(alloc, file, line, "DoubleName")?),
+        Err(OwlFault::Undeclared(line)) => refuse(line_refused(alloc, file, line, "Undeclared")?),
+        Err(OwlFault::FunctionalSpecialised(line)) => refuse(line_refused(
+            alloc,
+            file,
+            line,
+            "FunctionalSpecialised",
+        )?),
+        Err(OwlFault::Limit(what)) => passed(alloc, what),
+        Err(OwlFault::NoMemory) => Err(Halt::NoMemory),
+    }
+}
+
+// The project that a text is, over an ontology if there is one.
+fn project_in(alloc: Global, bytes: &[u8], given: Option<Ontology>) -> Result<Project, ProjectFault>
+    requires short { length bytes.now ≤ limit_of File }
+    requires given { IfSome given IsOntology }
+    ensures read { IfOk result (λ p. project_of bytes.now given ≡ Ok p) }
+    ensures fault { IfErr result (λ e. e ≢ ProjectFault.NoMemory → project_of bytes.now given ≡ Err e) }
+    ensures sound { IfOk result IsSound }
+{
+    match given {
+        Some(ontology) => read_project_over(alloc, bytes, ontology),
+        None => read_project(alloc, bytes),
+    }
+}
+
+fn project_of(
+    alloc: Global,
+    name: &str,
+    bytes: &[u8],
+    given: Option<Ontology>,
+) -> Result<Project, Halt>
+    requires short { length bytes.now ≤ limit_of File }
+    requires given { IfSome given IsOntology }
+    ensures told { Gives (λ p. p) result (read_step name.now (project_of bytes.now given)) }
     ensures sound { IfOk result IsSound }
     ensures usage { IfErr result (λ h. SaysUsage h → ⊥) }
     ensures local { IfErr result IsLocal }
 {
-    match read_project(alloc, bytes) {
+    match project_in(alloc, bytes, given) {
         Ok(project) => Ok(project),
         Err(ProjectFault::NotUtf8(line)) => refuse(line_refused(alloc, name, line, "NotUtf8")?),
         Err(ProjectFault::Line(line, fault)) => refuse(line_refused(

@@ -6,6 +6,7 @@ ghost use Rattle.annotation_language.specs.Named.{variables_named};
 ghost use Rattle.onprom_core.specs.Jobs.{EndsRewriting, printed};
 ghost use Rattle.onprom_core.specs.Outputs.{EndsWell, ended};
 ghost use Rattle.onprom_core.specs.Rewritten.{PrintsKept, done_with};
+ghost use Rattle.project_language.specs.Sound.{IsSound};
 
 use crate::Status;
 use crate::lines::line_of;
@@ -18,7 +19,6 @@ use project_language::Project;
 use queries::Query;
 use query_subsumption::drop_subsumed;
 use std::alloc::{AllocError, Global};
-use uml_model::axioms_of;
 use vocabulary::{List, Name};
 
 /// The rewriting of the query of this name, without the queries for which others stand.
@@ -28,11 +28,12 @@ pub(crate) fn rewriting(
     name: &str,
     query: &Query,
 ) -> Result<Output, AllocError>
-    requires { IsAskable query.now }
+    requires sound { IsSound project.now }
+    requires askable { IsAskable query.now }
     ensures ends { IfOk result (λ o. EndsRewriting project.now name.now query.now (ended o)) }
     ensures well { IfOk result (EndsWell false) }
 {
-    let tbox = axioms_of(alloc, &project.model)?;
+    let tbox = project.tbox(alloc)?;
     match rewrite(alloc, &tbox, query) {
         Ok(members) => rewritten(alloc, project, name, members),
         Err(RewriteFault::TooWide) => too_wide(alloc),

@@ -16,7 +16,6 @@ use outside::Bytes;
 use project_language::Project;
 use source_tables::Table;
 use std::alloc::{AllocError, Global};
-use uml_model::axioms_of;
 
 /// Whether all of the derivations are accepted, or which is the first that is not.
 pub(crate) fn verifying(
@@ -29,7 +28,7 @@ pub(crate) fn verifying(
     ensures ends { IfOk result (λ o. EndsVerification project.now tables.now derivations.now (ended o)) }
     ensures well { IfOk result (EndsWell false) }
 {
-    let tbox = axioms_of(alloc, &project.model)?;
+    let tbox = project.tbox(alloc)?;
     match first_refused(
         alloc,
         &tbox,

@@ -4,6 +4,7 @@ use Rattle.std.specs.List.{list_any}
 use Rattle.std.specs.Str.{is_utf8}
 use Rattle.line_lexer.specs.Faults.{limit_of}
 use Rattle.line_lexer.specs.Judging.{first_broken, first_passed, read_by, unless}
+use Rattle.line_lexer.specs.Left.{Left}
 use Rattle.line_lexer.specs.Lines.{lines_of}
 use Rattle.line_lexer.specs.Tokens.{Seen, tokens_of}
 use Rattle.line_lexer.specs.declared.fault.Counted.{Counted}
@@ -28,10 +29,11 @@ use Rattle.annotation_language.specs.Complete.{has_key}
 use Rattle.annotation_language.specs.Grammar.{annotation_line}
 use Rattle.annotation_language.specs.Lines as notes
 use Rattle.annotation_language.specs.Written as note
+use Rattle.owl_functional.specs.declared.ontology.Ontology.{Ontology}
 use Rattle.project_language.specs.declared.fault.ProjectFault.{ProjectFault}
 use Rattle.project_language.specs.declared.fault.ProjectFault.TheVariants as fault
 use Rattle.project_language.specs.declared.project.Project.{Project}
-use Rattle.project_language.specs.Project.{as_fault, bad_line, map_ok, nothing, onward, open_lines, opened, opening, is_opening, is_of_tables, is_of_mappings, is_of_notes, read_counted, read_lines, read_project, read_seen, read_tokens}
+use Rattle.project_language.specs.Project.{as_fault, bad_line, begun_with, behind, file_or_syntax, map_ok, name_lines, name_text, named, named_file, naming, nothing, onward, open_counted, open_lines, open_text, opened, opening, is_opening, is_of_tables, is_of_mappings, is_of_notes, read_lines, read_project, read_project_over, read_seen, read_tokens}
 
 abbrev is_memory : LineFault → Bool
 is_memory NoMemory = true
@@ -45,7 +47,7 @@ Told o = o ≡ Some NoMemory → ⊥
 abbrev Says : {S : Type 0} → Result S LineFault → Type 0
 Says r = r ≡ Err NoMemory → ⊥
 
-abbrev Reads : Result Project ProjectFault → Type 0
+abbrev Reads : {A : Type 0} → Result A ProjectFault → Type 0
 Reads r = r ≡ Err fault.NoMemory → ⊥
 
 rule_told : (t : Bool) (f : LineFault) (o : Option LineFault) → is_memory f ≡ false → Told o → Told (if t then Some f else o)
@@ -138,13 +140,16 @@ parsed_says s (Some line) e = judged_says s line (model_rules.broken s line) (mo
 twice : Says {S = Project} (Err Double)
 twice e = cc
 
+in_no_form : Says {S = Project} (Err Syntax)
+in_no_form e = cc
+
 tokens_say : (number : ℕ) (p : Project) (tokens : List Seen) → Says (read_tokens number p tokens)
 tokens_say number p tokens =
     chosen (is_opening tokens) _ _ twice
     (chosen (is_of_tables tokens) _ _ (mapped _ _ (says_by source_line (tables.broken p.sources) (tables.grown p.sources) p.sources (source_told p.sources) (Some tokens)))
     (chosen (is_of_mappings tokens) _ _ (mapped _ _ (says_by map_line (mappings.broken (class_named p.model) (link_named p.model) p.sources) (mappings.grown (class_named p.model) (link_named p.model) p.sources) p.sources (mapping_told (class_named p.model) (link_named p.model) p.sources) (Some tokens)))
     (chosen (is_of_notes tokens) _ _ (mapped _ _ (says_by annotation_line (notes.broken (class_named p.model) (link_named p.model) p.noted) (notes.grown (class_named p.model) (link_named p.model) number p.noted) p.noted (note_told (class_named p.model) (link_named p.model) p.noted) (Some tokens)))
-    (mapped _ _ (parsed_says p.model (model_line tokens))))))
+    (chosen (is_some p.given) _ _ in_no_form (mapped _ _ (parsed_says p.model (model_line tokens)))))))
 
 seen_says : (number : ℕ) (p : Project) (seen : Option (List Seen)) → Says (read_seen number p seen)
 seen_says number p None e = cc
@@ -166,10 +171,10 @@ of_line number (Limit what) other e = cc
 of_line number NoMemory other e = other refl
 of_line number f other e = cc
 
-abbrev refused : ProjectFault → Result Project ProjectFault
+abbrev refused : {A : Type 0} → ProjectFault → Result A ProjectFault
 refused f = Err f
 
-inside : (e f : ProjectFault) → refused e ≡ refused f → e ≡ f
+inside : {A : Type 0} (e f : ProjectFault) → refused {A = A} e ≡ refused f → e ≡ f
 inside e f same = cc
 
 onward_reads : (number : ℕ) (r : Result Project LineFault) (next : Project → Result Project ProjectFault) → Says r → ((p : Project) → Reads (next p)) → Reads (onward number r next)
@@ -181,30 +186,65 @@ unfolding read_lines
 lines_read number p [] e = cc
 lines_read number p (line ∷ rest) e = onward_reads number (read_seen number p (tokens_of line)) (λ next. read_lines (number + 1) next rest) (seen_says number p (tokens_of line)) (λ next. lines_read (number + 1) next rest) e
 
-opened_reads : (number : ℕ) (r : Result Bool LineFault) (behind later : Result Project ProjectFault) → Says r → Reads behind → Reads later → Reads (opened number r behind later)
-opened_reads number (Err f) behind later says x y e = of_line number f (λ same. says (ap Err same)) (inside (as_fault number f) fault.NoMemory e)
-opened_reads number (Ok true) behind later says x y e = x e
-opened_reads number (Ok false) behind later says x y e = y e
+opened_reads : (number : ℕ) (r : Result Bool LineFault) (left : Left) (later : Result Left ProjectFault) → Says r → Reads later → Reads (opened number r left later)
+opened_reads number (Err f) left later says y e = of_line number f (λ same. says (ap Err same)) (inside (as_fault number f) fault.NoMemory e)
+opened_reads number (Ok true) left later says y e = cc
+opened_reads number (Ok false) left later says y e = y e
 
 opens : (number : ℕ) (lines : List (List ℕ)) → Reads (open_lines number lines)
 unfolding open_lines
 opens number [] e = cc
 opens number (line ∷ rest) e =
-    opened_reads number (opening (tokens_of line)) (read_lines (number + 1) nothing rest) (open_lines (number + 1) rest) (opening_says (tokens_of line)) (lines_read (number + 1) nothing rest) (opens (number + 1) rest) e
+    opened_reads number (opening (tokens_of line)) (record { number = number; lines = rest }) (open_lines (number + 1) rest) (opening_says (tokens_of line)) (opens (number + 1) rest) e
 
-either_reads : (t : Bool) (a b : Result Project ProjectFault) → Reads a → Reads b → Reads (if t then a else b)
+either_reads : {A : Type 0} (t : Bool) (a b : Result A ProjectFault) → Reads a → Reads b → Reads (if t then a else b)
 either_reads true a b x y = x
 either_reads false a b x y = y
 
-of_limit : (what : Counted) → Reads (refused (fault.Limit what))
+of_limit : {A : Type 0} (what : Counted) → Reads {A = A} (refused (fault.Limit what))
 of_limit what e = cc
 
-of_bytes : (line : ℕ) → Reads (refused (fault.NotUtf8 line))
+of_bytes : {A : Type 0} (line : ℕ) → Reads {A = A} (refused (fault.NotUtf8 line))
 of_bytes line e = cc
 
-counted_reads : (lines : List (List ℕ)) → Reads (read_counted lines)
+counted_reads : (lines : List (List ℕ)) → Reads (open_counted lines)
 counted_reads lines = either_reads (nat_lt (limit_of Lines) (length lines)) (refused (fault.Limit Lines)) (open_lines 1 lines) (of_limit Lines) (opens 1 lines)
+
+text_reads : (bytes : List ℕ) → Reads (open_text bytes)
+text_reads bytes = either_reads (is_utf8 bytes) (open_counted (lines_of bytes)) (refused (fault.NotUtf8 (bad_line bytes))) (counted_reads (lines_of bytes)) (of_bytes (bad_line bytes))
+
+behind_reads : {A B : Type 0} (r : Result A ProjectFault) (next : A → Result B ProjectFault) → Reads r → ((x : A) → Reads (next x)) → Reads (behind r next)
+behind_reads (Ok x) next says reads e = reads x e
+behind_reads (Err f) next says reads e = says (ap Err (inside f fault.NoMemory e))
 
 pub project_told : (bytes : List ℕ) → read_project bytes ≢ Err fault.NoMemory
 unfolding read_project
-project_told bytes = either_reads (is_utf8 bytes) (read_counted (lines_of bytes)) (refused (fault.NotUtf8 (bad_line bytes))) (counted_reads (lines_of bytes)) (of_bytes (bad_line bytes))
+project_told bytes = behind_reads (open_text bytes) (λ left. read_lines (left.number + 1) nothing left.lines) (text_reads bytes) (λ left. lines_read (left.number + 1) nothing left.lines)
+
+naming_says : (seen : Option (List Seen)) → Says (naming seen)
+naming_says None e = cc
+naming_says (Some []) e = cc
+naming_says (Some (t ∷ ts)) e = by (named_file (t ∷ ts)) e
+  where
+    by : (o : Option (List ℕ)) → Says (file_or_syntax o)
+    by None e = cc
+    by (Some file) e = cc
+
+named_reads : (number : ℕ) (r : Result (Option (List ℕ)) LineFault) (left : Left) (later : Result (List ℕ × Left) ProjectFault) → Says r → Reads later → Reads (named number r left later)
+named_reads number (Err f) left later says y e = of_line number f (λ same. says (ap Err same)) (inside (as_fault number f) fault.NoMemory e)
+named_reads number (Ok (Some file)) left later says y e = cc
+named_reads number (Ok None) left later says y e = y e
+
+names : (number : ℕ) (lines : List (List ℕ)) → Reads (name_lines number lines)
+unfolding name_lines
+names number [] e = cc
+names number (line ∷ rest) e =
+    named_reads number (naming (tokens_of line)) (record { number = number; lines = rest }) (name_lines (number + 1) rest) (naming_says (tokens_of line)) (names (number + 1) rest) e
+
+names_text : (bytes : List ℕ) → Reads (name_text bytes)
+unfolding name_text
+names_text bytes = behind_reads (open_text bytes) (λ left. name_lines (left.number + 1) left.lines) (text_reads bytes) (λ left. names (left.number + 1) left.lines)
+
+pub project_over_told : (bytes : List ℕ) (o : Ontology) → read_project_over bytes o ≢ Err fault.NoMemory
+unfolding read_project_over
+project_over_told bytes o = behind_reads (name_text bytes) (λ found. read_lines (found.1.number + 1) (begun_with o) found.1.lines) (names_text bytes) (λ found. lines_read (found.1.number + 1) (begun_with o) found.1.lines)

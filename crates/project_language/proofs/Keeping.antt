@@ -1,7 +1,8 @@
 -- What a line keeps of a project that is sound.
-use Rattle.std.proofs.Common.{◌≡◌, refl, subst, arith, length-append, List, [], ◌∷◌, length, ℕ, ◌≤◌, Option, Some, None, inl, inr, Result, Ok, Err, OnOk}
+use Rattle.std.proofs.Common.{◌≡◌, refl, subst, arith, length-append, List, [], ◌∷◌, length, ℕ, ◌≤◌, Option, Some, None, false, is_some, inl, inr, Result, Ok, Err, OnOk}
 use Rattle.line_lexer.specs.Tokens.{Begins, Seen, tokens_of}
 use Rattle.line_lexer.specs.declared.fault.LineFault.{LineFault}
+use Rattle.dllite_axioms.specs.declared.axioms.Tbox.{Tbox}
 use Rattle.uml_model.specs.Lines.{Line, Class, Sub, Disjoint, Assoc, Attr, SubAssoc, SubAttr, DisjointAssoc, Identify}
 use Rattle.uml_model.specs.Rules.{Known, grown, read_line, read_tokens as model_tokens}
 use Rattle.uml_model.specs.Sorts.{IsModel}
@@ -22,8 +23,41 @@ use Rattle.annotation_language.specs.Askable.{OfEach, OfEvent, OfSource}
 use Rattle.annotation_language.specs.Within.{AreAskedWithin}
 use Rattle.queries.specs.Within.{IsAtomWithin, IsQueryWithin}
 use Rattle.project_language.specs.declared.project.Project.{Project}
-use Rattle.project_language.specs.Sound.{IsSound}
+use Rattle.owl_functional.specs.declared.ontology.Ontology.{Ontology}
+use Rattle.owl_functional.specs.Sound.{IsOntology}
+use Rattle.project_language.specs.Meant.{of_lines}
+use Rattle.project_language.specs.Project.{begun_with}
+use Rattle.project_language.specs.Sound.{AreOver, IsSound}
 use Rattle.project_language.proofs.Leaving.{Leaves, leaves}
+
+-- no ontology gives the model
+none_given : (given : Option Tbox) → false ≡ is_some given → given ≡ None
+none_given None is = refl
+none_given (Some t) is = absurd cc
+
+-- what the lines of a model mean
+pub model_over : (s : Known) → IsModel s → AreOver s (of_lines s)
+model_over s m = record {
+  few_axioms = m.few_axioms;
+  few_constraints = m.few_constraints;
+  axioms_within = m.axioms_within;
+  constraints_within = m.constraints_within;
+  functional_free = m.functional_free;
+  axioms_sorted = m.axioms_sorted;
+  constraints_sorted = m.constraints_sorted;
+}
+
+-- what an ontology gives
+pub ontology_over : (o : Ontology) → IsOntology o → AreOver (begun_with o).model o.tbox
+ontology_over o is = record {
+  few_axioms = is.few_axioms;
+  few_constraints = is.few_constraints;
+  axioms_within = is.axioms_within;
+  constraints_within = is.constraints_within;
+  functional_free = is.functional_free;
+  axioms_sorted = is.axioms_sorted;
+  constraints_sorted = is.constraints_sorted;
+}
 
 -- no mappings are few, and over whatever classes and links
 pub none_few : (ms : List Mapping) → ms ≡ [] → AreFew ms
@@ -96,9 +130,9 @@ left_more : (s new : Known) (tokens : List Seen) → Leaves s new tokens → Has
 left_more s new tokens left = elim left [ inl same ↦ subst (HasMore s) same (record { classes = omega arith; links = omega arith }) | inr line ↦ subst (HasMore s) line.2 (grown_more s line.0) ]
 
 -- with the model of a line
-pub model_kept : {T : Type 0} (r : Result T LineFault) (p : Project) (new : Known) (text : List ℕ) (tokens : List Seen) → IsSound p → tokens_of text ≡ Some tokens
+pub model_kept : {T : Type 0} (r : Result T LineFault) (p : Project) (new : Known) (text : List ℕ) (tokens : List Seen) → IsSound p → p.given ≡ None → tokens_of text ≡ Some tokens
     → OnOk r (read_line p.model text ≡ Ok new) → OnOk r (IsModel new) → OnOk r (IsSound (record p { model = new }))
-model_kept (Ok x) p new text tokens sound told read model =
+model_kept (Ok x) p new text tokens sound none told read model =
     let left = leaves p.model new text tokens told read in
     let more = left_more p.model new tokens left in
     record {
@@ -108,20 +142,21 @@ model_kept (Ok x) p new text tokens sound told read model =
       within = mappings_wider (length p.model.classes) (length p.model.links) (length new.classes) (length new.links) p.sources.mappings more.classes more.links sound.within;
       names = sound.names;
       model = model;
+      tbox = rw none (model_over new model);
       askable = sound.askable;
       asked_within = asked_wider (length p.model.classes) (length p.model.links) (length new.classes) (length new.links) p.noted.notes more.classes more.links sound.asked_within;
     }
-model_kept (Err fault) p new text tokens sound told read model = tt
+model_kept (Err fault) p new text tokens sound none told read model = tt
 
 -- where its first token is known
-pub model_kept_begun : {T : Type 0} (r : Result T LineFault) (p : Project) (new : Known) (text : List ℕ) (t : Seen) → IsSound p → Begins t (tokens_of text)
+pub model_kept_begun : {T : Type 0} (r : Result T LineFault) (p : Project) (new : Known) (text : List ℕ) (t : Seen) → IsSound p → false ≡ is_some p.given → Begins t (tokens_of text)
     → OnOk r (read_line p.model text ≡ Ok new) → OnOk r (IsModel new) → OnOk r (IsSound (record p { model = new }))
-model_kept_begun {T} r p new text t sound begins read model = by (tokens_of text) refl
+model_kept_begun {T} r p new text t sound none begins read model = by (tokens_of text) refl
   where
     never : (r : Result T LineFault) → tokens_of text ≡ None → OnOk r (read_line p.model text ≡ Ok new) → OnOk r (IsSound (record p { model = new }))
-    never (Ok x) none read = absurd (let e : model_tokens p.model None ≡ Ok new = subst (λ o. model_tokens p.model o ≡ Ok new) none read in cc)
-    never (Err fault) none read = tt
+    never (Ok x) untold read = absurd (let e : model_tokens p.model None ≡ Ok new = subst (λ o. model_tokens p.model o ≡ Ok new) untold read in cc)
+    never (Err fault) untold read = tt
 
     by : (o : Option (List Seen)) → tokens_of text ≡ o → OnOk r (IsSound (record p { model = new }))
     by None told = never r told read
-    by (Some tokens) told = model_kept r p new text tokens sound told read model
+    by (Some tokens) told = model_kept r p new text tokens sound (none_given p.given none) told read model

@@ -5,4 +5,5 @@ mod Bytes
 mod Leaving
 mod Keeping
 mod Faults
+mod Named
 mod Samples

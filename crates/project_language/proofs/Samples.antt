@@ -16,7 +16,8 @@ use Rattle.annotation_language.specs.Lines as note_lines
 use Rattle.project_language.specs.declared.project.Project.{Project}
 use Rattle.project_language.specs.declared.fault.ProjectFault.{ProjectFault as Fault}
 use Rattle.project_language.specs.declared.fault.ProjectFault.TheVariants.{NotUtf8, Line}
-use Rattle.project_language.specs.Project.{open_lines, read_lines, read_project}
+use Rattle.owl_functional.specs.declared.ontology.Ontology.{Ontology}
+use Rattle.project_language.specs.Project.{name_lines, name_text, ontology_file, open_lines, read_lines, read_project, read_project_over}
 
 abbrev fault_of : Result Project Fault → Option Fault
 fault_of (Ok p) = None
@@ -50,3 +51,22 @@ constrained : faults (map papers (codes "disjoint Paper Zed" ∷ codes "assoc p 
     ≡ Some (Line 6 Unknown) ∷ None ∷ None ∷ Some (Line 6 Syntax) ∷ None ∷ []
 unfolding chars tokens_behind token_front model_lines.model_line model_lines.attr_line model_lines.assoc_line model_lines.multiplicity_at model_lines.identify_line at_most model_rules.is_functional model_rules.broken map_grammar.source_line map_grammar.table_line map_grammar.column_line map_tables.broken map_tables.grown open_lines read_lines read_project is_utf8 lib.Utf8.encode
 constrained = refl
+
+-- the file of the second line with tokens, behind `onprom 1`
+ontologies : map ontology_file (codes "onprom 1\nontology \"m.ofn\"\nclass A" ∷ codes "\nonprom 1\n# none\n\nontology \"m.ofn\"" ∷ codes "onprom 1\nclass A\nontology \"m.ofn\"" ∷ codes "onprom 1\nontology m" ∷ codes "ontology \"m.ofn\"" ∷ codes "onprom 1\n" ∷ [])
+    ≡ Some (codes "m.ofn") ∷ Some (codes "m.ofn") ∷ None ∷ None ∷ None ∷ None ∷ []
+unfolding chars tokens_behind token_front open_lines name_lines name_text is_utf8 lib.Utf8.encode
+ontologies = refl
+
+-- what a class `A` is given by
+abbrev one_class : Ontology
+one_class = record { classes = codes "A" ∷ []; links = []; sides = []; tbox = record { axioms = []; constraints = [] } }
+
+abbrev over : List ℕ → Option Fault
+over lines = fault_of (read_project_over (codes "onprom 1\nontology \"m\"\n" ++ lines) one_class)
+
+-- its names are declared, and no line is a model line
+over_ontologies : map over (codes "query q (x) where A(x)" ∷ codes "query q (x) where B(x)" ∷ codes "class B" ∷ codes "ontology \"m\"" ∷ codes "onprom 1" ∷ [])
+    ≡ None ∷ Some (Line 3 Unknown) ∷ Some (Line 3 Syntax) ∷ Some (Line 3 Syntax) ∷ Some (Line 3 Double) ∷ []
+unfolding chars tokens_behind token_front model_lines.model_line note_grammar.atom note_grammar.of_any note_grammar.annotation_line note_lines.broken note_lines.grown at_most open_lines name_lines name_text read_lines read_project_over is_utf8 lib.Utf8.encode
+over_ontologies = refl

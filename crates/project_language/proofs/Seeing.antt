@@ -18,7 +18,7 @@ use Rattle.mapping_language.specs.Mappings as mappings
 use Rattle.annotation_language.specs.Grammar.{annotation_line}
 use Rattle.annotation_language.specs.Lines as notes
 use Rattle.project_language.specs.declared.project.Project.{Project}
-use Rattle.project_language.specs.Project.{again, begins_with, is_end, is_opening, is_of_tables, is_of_mappings, is_of_notes, map_ok, opening, read_seen, read_tokens, with_sources, with_notes, with_model}
+use Rattle.project_language.specs.Project.{again, begins_with, is_end, is_opening, is_of_tables, is_of_mappings, is_of_notes, map_ok, opening, read_model, read_seen, read_tokens, with_sources, with_notes, with_model}
 
 -- what the reader of a part answers is what the line gives
 pub read_of : {A T : Type 0} (f : A → Project) (r : Result T LineFault) (whole : Result Project LineFault) (part : Result A LineFault) (x : A) → whole ≡ map_ok f part → OnOk r (part ≡ Ok x) → OnOk r (whole ≡ Ok (f x))
@@ -35,8 +35,15 @@ abbrev where_told : Bool → List Seen → Option (List Seen)
 where_told c ts = if c then Some ts else None
 
 -- the opening line again, and what its reader answers
-abbrev refused_again : Bool → Result Project LineFault
-refused_again is = if is then Err line_fault.Double else Err line_fault.Syntax
+abbrev in_no_form : Bool → Result Project LineFault
+in_no_form given = if given then Err line_fault.Syntax else Err line_fault.Syntax
+
+abbrev refused_again : Bool → Bool → Result Project LineFault
+refused_again given is = if is then Err line_fault.Double else in_no_form given
+
+always_syntax : (given : Bool) → in_no_form given ≡ Err line_fault.Syntax
+always_syntax true = refl
+always_syntax false = refl
 
 abbrev opened_again : Bool → Result Bool LineFault
 opened_again is = if is then Ok true else Err line_fault.Syntax
@@ -85,9 +92,17 @@ module _ (t : Seen) where
           of_notes is = of_begun (λ o. read_seen n p o ≡ with_notes p (read_by annotation_line (notes.broken (class_named p.model) (link_named p.model) p.noted) (notes.grown (class_named p.model) (link_named p.model) n p.noted) p.noted o)) refl
               (λ ts. rw (not_opening ts no, words_alone (codes "table" ∷ codes "column" ∷ codes "key" ∷ []) ts, ← no_table, words_alone (codes "map" ∷ []) ts, ← no_mapping, words_alone (codes "case" ∷ codes "casename" ∷ codes "event" ∷ codes "cases" ∷ codes "set" ∷ codes "query" ∷ []) ts, ← is) refl)
 
-          pub of_model : false ≡ is_of_notes (t ∷ []) → read_seen n p o ≡ map_ok (λ model. record p { model = model }) (model.read_tokens p.model o)
-          of_model is = of_begun (λ o. read_seen n p o ≡ with_model p (model.read_tokens p.model o)) refl
-              (λ ts. rw (not_opening ts no, words_alone (codes "table" ∷ codes "column" ∷ codes "key" ∷ []) ts, ← no_table, words_alone (codes "map" ∷ []) ts, ← no_mapping, words_alone (codes "case" ∷ codes "casename" ∷ codes "event" ∷ codes "cases" ∷ codes "set" ∷ codes "query" ∷ []) ts, ← is) refl)
+          of_other : false ≡ is_of_notes (t ∷ []) → (ts : List Seen) → read_tokens n p (t ∷ ts) ≡ read_model p (t ∷ ts)
+          of_other is ts = rw (not_opening ts no, words_alone (codes "table" ∷ codes "column" ∷ codes "key" ∷ []) ts, ← no_table, words_alone (codes "map" ∷ []) ts, ← no_mapping, words_alone (codes "case" ∷ codes "casename" ∷ codes "event" ∷ codes "cases" ∷ codes "set" ∷ codes "query" ∷ []) ts, ← is) refl
+
+          pub of_model : false ≡ is_of_notes (t ∷ []) → false ≡ is_some p.given → read_seen n p o ≡ map_ok (λ model. record p { model = model }) (model.read_tokens p.model o)
+          of_model is plain = of_begun (λ o. read_seen n p o ≡ with_model p (model.read_tokens p.model o)) refl
+              (λ ts. of_other is ts ∙ ap (λ b. if b then Err line_fault.Syntax else with_model p (model.read_parsed p.model (model_line (t ∷ ts)))) (sym plain))
+
+          -- and no line is one where an ontology gives the model
+          pub of_given : false ≡ is_of_notes (t ∷ []) → true ≡ is_some p.given → read_seen n p o ≡ Err line_fault.Syntax
+          of_given is given = of_begun (λ o. read_seen n p o ≡ Err line_fault.Syntax) refl
+              (λ ts. of_other is ts ∙ ap (λ b. if b then Err line_fault.Syntax else with_model p (model.read_parsed p.model (model_line (t ∷ ts)))) (sym given))
 
     -- a line that begins with `onprom` is the opening line or in no form
     of_opening : true ≡ is_some (expect (codes "onprom") (t ∷ [])) → read_seen n p o ≡ Err (again (opening o))
@@ -95,9 +110,9 @@ module _ (t : Seen) where
     of_opening is = of_begun (λ o. read_seen n p o ≡ Err (again (opening o))) refl (λ ts. by t.shape t.text ts is)
       where
         spelled : (shape : Shape) → not (is_quoted_shape shape) ≡ true → (ts : List Seen) → read_seen n p (Some (record { shape = shape; text = codes "onprom" } ∷ ts)) ≡ Err (again (opening (Some (record { shape = shape; text = codes "onprom" } ∷ ts))))
-        spelled Word plain ts = elim (is_end (expect (codes "1") ts)) as (λ b. refused_again b ≡ Err (again (opened_again b))) [ true ↦ refl | false ↦ refl ]
-        spelled Number plain ts = elim (is_end (expect (codes "1") ts)) as (λ b. refused_again b ≡ Err (again (opened_again b))) [ true ↦ refl | false ↦ refl ]
-        spelled Sign plain ts = elim (is_end (expect (codes "1") ts)) as (λ b. refused_again b ≡ Err (again (opened_again b))) [ true ↦ refl | false ↦ refl ]
+        spelled Word plain ts = elim (is_end (expect (codes "1") ts)) as (λ b. refused_again (is_some p.given) b ≡ Err (again (opened_again b))) [ true ↦ refl | false ↦ always_syntax (is_some p.given) ]
+        spelled Number plain ts = elim (is_end (expect (codes "1") ts)) as (λ b. refused_again (is_some p.given) b ≡ Err (again (opened_again b))) [ true ↦ refl | false ↦ always_syntax (is_some p.given) ]
+        spelled Sign plain ts = elim (is_end (expect (codes "1") ts)) as (λ b. refused_again (is_some p.given) b ≡ Err (again (opened_again b))) [ true ↦ refl | false ↦ always_syntax (is_some p.given) ]
         spelled Quoted plain ts = absurd cc
 
         by : (shape : Shape) (text : List ℕ) (ts : List Seen) → true ≡ is_some (expect (codes "onprom") (record { shape = shape; text = text } ∷ [])) → read_seen n p (Some (record { shape = shape; text = text } ∷ ts)) ≡ Err (again (opening (Some (record { shape = shape; text = text } ∷ ts))))

@@ -1,3 +1,4 @@
+pub mod Meant
 pub mod Project
 pub mod Sound
 pub mod Laws

@@ -4,14 +4,16 @@ use Rattle.std.specs.List.{list_any}
 use Rattle.std.specs.Str.{is_utf8}
 use Rattle.std.specs.Str.Lossy.{utf8_valid_len}
 use Rattle.line_lexer.specs.Tokens.{Seen, tokens_of}
-use Rattle.line_lexer.specs.Grammar.{◌>>=◌, expect, ended}
+use Rattle.line_lexer.specs.Grammar.{◌>>=◌, any_quoted, expect, ended}
 use Rattle.line_lexer.specs.Faults.{limit_of}
+use Rattle.line_lexer.specs.Left.{Left}
 use Rattle.line_lexer.specs.Lines.{lines_of}
 use Rattle.line_lexer.specs.declared.fault.LineFault.{LineFault}
 use Rattle.line_lexer.specs.declared.fault.LineFault.TheVariants as line_fault
 use Rattle.line_lexer.specs.declared.fault.Counted.TheVariants.{Lines}
 use Rattle.uml_model.specs.Lines.{model_line}
 use Rattle.uml_model.specs.Rules.{Known, class_named, link_named, read_parsed, nothing as no_model}
+use Rattle.owl_functional.specs.declared.ontology.Ontology.{Ontology}
 use Rattle.mapping_language.specs.declared.sources.Sources.{Sources}
 use Rattle.mapping_language.specs.Grammar.{source_line, map_line}
 use Rattle.line_lexer.specs.Judging.{read_by}
@@ -64,6 +66,23 @@ again (Ok true) = line_fault.Double
 again (Ok false) = line_fault.Syntax
 again (Err fault) = fault
 
+-- FILE of `ontology "FILE"`, behind `ontology`
+abbrev pub file_alone : List ℕ × List Seen → Option (List ℕ)
+file_alone file = if ended file.1 then Some file.0 else None
+
+abbrev pub named_file : List Seen → Option (List ℕ)
+named_file tokens = expect (codes "ontology") tokens >>= (λ rest. any_quoted rest >>= file_alone)
+
+abbrev pub file_or_syntax : Option (List ℕ) → Result (Option (List ℕ)) LineFault
+file_or_syntax None = Err line_fault.Syntax
+file_or_syntax (Some file) = Ok (Some file)
+
+-- the file that a line names as its ontology, and none without tokens; a line of other tokens is Syntax
+abbrev pub naming : Option (List Seen) → Result (Option (List ℕ)) LineFault
+naming None = Err line_fault.Syntax
+naming (Some []) = Ok None
+naming (Some (t ∷ ts)) = file_or_syntax (named_file (t ∷ ts))
+
 abbrev pub map_ok : {A B : Type 0} → (A → B) → Result A LineFault → Result B LineFault
 map_ok f (Ok x) = Ok (f x)
 map_ok f (Err fault) = Err fault
@@ -74,7 +93,16 @@ bad_line bytes = count_by (λ b. b == 10) (take (utf8_valid_len bytes) bytes) + 
 
 -- nothing yet
 abbrev pub nothing : Project
-nothing = record { sources = tables.nothing; model = no_model; noted = notes.nothing }
+nothing = record { sources = tables.nothing; model = no_model; given = None; noted = notes.nothing }
+
+-- the classes, links, axioms and constraints of an ontology, and nothing else
+abbrev pub begun_with : Ontology → Project
+begun_with o = record {
+  sources = tables.nothing;
+  model = record { classes = o.classes; links = o.links; sides = o.sides; lines = [] };
+  given = Some o.tbox;
+  noted = notes.nothing;
+}
 
 abbrev pub with_sources : Project → Result Sources LineFault → Result Project LineFault
 with_sources p result = map_ok (λ sources. record p { sources = sources }) result
@@ -99,9 +127,10 @@ read_note number p tokens = with_notes p (read_by annotation_line
     (notes.grown (class_named p.model) (link_named p.model) number p.noted) p.noted (Some tokens))
 
 abbrev pub read_model : Project → List Seen → Result Project LineFault
-read_model p tokens = with_model p (read_parsed p.model (model_line tokens))
+read_model p tokens = if is_some p.given then Err line_fault.Syntax else with_model p (read_parsed p.model (model_line tokens))
 
--- a line behind `onprom 1`, which may not come again; what begins with no word of another line is a model line or Syntax
+-- a line behind `onprom 1`, which may not come again; what begins with no word of another line is a model line or Syntax, and Syntax
+-- where an ontology gives the model
 abbrev pub read_tokens : ℕ → Project → List Seen → Result Project LineFault
 read_tokens number p tokens =
     if is_opening tokens then Err line_fault.Double
@@ -124,20 +153,53 @@ unfoldable pub read_lines : ℕ → Project → List (List ℕ) → Result Proje
 read_lines number p [] = Ok p
 read_lines number p (line ∷ rest) = onward number (read_seen number p (tokens_of line)) (λ next. read_lines (number + 1) next rest)
 
-abbrev pub opened : ℕ → Result Bool LineFault → Result Project ProjectFault → Result Project ProjectFault → Result Project ProjectFault
+abbrev pub opened : ℕ → Result Bool LineFault → Left → Result Left ProjectFault → Result Left ProjectFault
 opened number (Err fault) behind later = Err (as_fault number fault)
-opened number (Ok true) behind later = behind
+opened number (Ok true) behind later = Ok behind
 opened number (Ok false) behind later = later
 
--- the first line with tokens is `onprom 1`; where no line has tokens, line 1 has the fault
-unfoldable pub open_lines : ℕ → List (List ℕ) → Result Project ProjectFault
+-- what is left behind the first line with tokens, which is `onprom 1`; where no line has tokens, line 1 has the fault
+unfoldable pub open_lines : ℕ → List (List ℕ) → Result Left ProjectFault
 open_lines number [] = Err (Line 1 line_fault.Syntax)
-open_lines number (line ∷ rest) = opened number (opening (tokens_of line)) (read_lines (number + 1) nothing rest) (open_lines (number + 1) rest)
+open_lines number (line ∷ rest) = opened number (opening (tokens_of line)) (record { number = number; lines = rest }) (open_lines (number + 1) rest)
 
 -- the lines are counted before the first is read
-abbrev pub read_counted : List (List ℕ) → Result Project ProjectFault
-read_counted all = if nat_lt (limit_of Lines) (length all) then Err (Limit Lines) else open_lines 1 all
+abbrev pub open_counted : List (List ℕ) → Result Left ProjectFault
+open_counted all = if nat_lt (limit_of Lines) (length all) then Err (Limit Lines) else open_lines 1 all
+
+abbrev pub open_text : List ℕ → Result Left ProjectFault
+open_text bytes = if is_utf8 bytes then open_counted (lines_of bytes) else Err (NotUtf8 (bad_line bytes))
+
+abbrev pub behind : {A B : Type 0} → Result A ProjectFault → (A → Result B ProjectFault) → Result B ProjectFault
+behind (Ok x) next = next x
+behind (Err fault) next = Err fault
 
 -- the project that the bytes of a file are, or its first fault
 unfoldable pub read_project : List ℕ → Result Project ProjectFault
-read_project bytes = if is_utf8 bytes then read_counted (lines_of bytes) else Err (NotUtf8 (bad_line bytes))
+read_project bytes = behind (open_text bytes) (λ left. read_lines (left.number + 1) nothing left.lines)
+
+abbrev pub named : ℕ → Result (Option (List ℕ)) LineFault → Left → Result (List ℕ × Left) ProjectFault → Result (List ℕ × Left) ProjectFault
+named number (Err fault) behind later = Err (as_fault number fault)
+named number (Ok (Some file)) behind later = Ok (file, behind)
+named number (Ok None) behind later = later
+
+-- the file that the first line with tokens names as the ontology, and what is left behind that line; any other line is Syntax
+unfoldable pub name_lines : ℕ → List (List ℕ) → Result (List ℕ × Left) ProjectFault
+name_lines number [] = Err (Line 1 line_fault.Syntax)
+name_lines number (line ∷ rest) = named number (naming (tokens_of line)) (record { number = number; lines = rest }) (name_lines (number + 1) rest)
+
+-- the same of a text, behind its `onprom 1`
+unfoldable pub name_text : List ℕ → Result (List ℕ × Left) ProjectFault
+name_text bytes = behind (open_text bytes) (λ left. name_lines (left.number + 1) left.lines)
+
+abbrev pub file_of : Result (List ℕ × Left) ProjectFault → Option (List ℕ)
+file_of (Ok found) = Some found.0
+file_of (Err fault) = None
+
+-- the file of the line `ontology "FILE"`: the bytes are UTF-8 in few enough lines, and it is the second line with tokens
+abbrev pub ontology_file : List ℕ → Option (List ℕ)
+ontology_file bytes = file_of (name_text bytes)
+
+-- the project that the bytes of a file are over the ontology that they name, or its first fault
+unfoldable pub read_project_over : List ℕ → Ontology → Result Project ProjectFault
+read_project_over bytes o = behind (name_text bytes) (λ found. read_lines (found.1.number + 1) (begun_with o) found.1.lines)

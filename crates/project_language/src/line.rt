@@ -126,6 +126,9 @@ impl Project {
         if is_of_notes(first) {
             return read_annotation_line(alloc, &mut self.noted, &self.model, line);
         }
+        if self.given.is_some() {
+            return Err(LineFault::Syntax);
+        }
         read_model_line(alloc, &mut self.model, line)
     }
 }

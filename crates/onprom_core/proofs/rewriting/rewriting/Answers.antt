@@ -11,7 +11,7 @@ returns-in-Ok-clause-ends c =
     IfOk-weaker c.rewritten.result (λ o. PrintsKept c.args.project.now c.args.name.now c.in-Ok.members (ended o))
     (λ o. EndsRewriting c.args.project.now c.args.name.now c.args.query.now (ended o))
     (λ o prints. ends_rewritten c.args.project.now c.args.name.now c.args.query.now c.in_ok-tbox.tbox c.in_ok-tbox.ensures.tbox
-    c.in-Ok.members (ended o) c.requires c.in-Ok.ensures.members c.in-Ok.ensures.narrow c.in-Ok.ensures.answers prints)
+    c.in-Ok.members (ended o) c.requires.askable c.in-Ok.ensures.members c.in-Ok.ensures.narrow c.in-Ok.ensures.answers prints)
     c.rewritten.ensures.prints
 
 pub returns-in-Err-TooWide-clause-ends : goal.returns-in-Err-TooWide-clause-ends

@@ -1,16 +1,12 @@
 -- A line at a time.
 use Rattle.line_lexer.specs.Lines.{lines_of}
-use Rattle.project_language.proofs.Folding.{at_passed, at_opened, at_fault, at_never, whole_ok, whole_err}
+use Rattle.project_language.proofs.Folding.{at_passed, at_opened, at_fault, at_never}
 use Rattle.project_language.specs.Project.{open_lines}
 use Rattle.project_language.proofs.reading.open_lines.Goals as goal
 
-pub returns-in-Ok-true-clause-read : goal.returns-in-Ok-true-clause-read
-returns-in-Ok-true-clause-read c =
-    whole_ok c.read_lines.result (at_opened (open_lines 1 (lines_of c.args.text.now)) c.loop-line.lines c.next.new.self c.in-Some.line c.loop-line.invariant c.in-Some.ensures (rw c.in-Ok-true.field-0-test at c.in-Ok-true.ensures.read)) c.read_lines.ensures.read
-
-pub returns-in-Ok-true-clause-fault : goal.returns-in-Ok-true-clause-fault
-returns-in-Ok-true-clause-fault c =
-    whole_err c.read_lines.result (at_opened (open_lines 1 (lines_of c.args.text.now)) c.loop-line.lines c.next.new.self c.in-Some.line c.loop-line.invariant c.in-Some.ensures (rw c.in-Ok-true.field-0-test at c.in-Ok-true.ensures.read)) c.read_lines.ensures.fault
+pub returns-in-Ok-true-clause-opened : goal.returns-in-Ok-true-clause-opened
+returns-in-Ok-true-clause-opened c =
+    at_opened (open_lines 1 (lines_of c.args.text.now)) c.loop-line.lines c.next.new.self c.in-Some.line c.loop-line.invariant c.in-Some.ensures (rw c.in-Ok-true.field-0-test at c.in-Ok-true.ensures.read)
 
 pub loop-line-preserved : goal.loop-line-preserved
 loop-line-preserved c =

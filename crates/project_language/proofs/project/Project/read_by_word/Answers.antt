@@ -22,9 +22,9 @@ returns-then-is_of_notes-clause-fault c =
 
 pub returns-clause-fault : goal.returns-clause-fault
 returns-clause-fault c =
-    fault_of _ c.read_model_line.result _ _ (of_model (seen c.args.first.now) c.args.line.now.number c.args.self.now (tokens_of c.args.line.now.text.now) c.requires.begins c.if-is_word.ensures c.if-is_of_tables.ensures c.if-is_of_mappings.ensures c.if-is_of_notes.ensures) c.read_model_line.ensures.fault
+    fault_of _ c.read_model_line.result _ _ (of_model (seen c.args.first.now) c.args.line.now.number c.args.self.now (tokens_of c.args.line.now.text.now) c.requires.begins c.if-is_word.ensures c.if-is_of_tables.ensures c.if-is_of_mappings.ensures c.if-is_of_notes.ensures c.if-is_some.ensures) c.read_model_line.ensures.fault
 
 pub returns-clause-sound : goal.returns-clause-sound
 returns-clause-sound c =
-    model_kept_begun c.read_model_line.result c.args.self.now c.read_model_line.new.model c.args.line.now.text.now (seen c.args.first.now) c.requires.sound c.requires.begins
+    model_kept_begun c.read_model_line.result c.args.self.now c.read_model_line.new.model c.args.line.now.text.now (seen c.args.first.now) c.requires.sound c.if-is_some.ensures c.requires.begins
     c.read_model_line.ensures.read (c.read_model_line.ensures.sound c.requires.sound.model)
