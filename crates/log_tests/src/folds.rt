@@ -36,7 +36,12 @@ fn tells_of<'a>(
 }
 
 // Whether the query of a case has its answers, no others, over a model and a table.
-fn is_answered(alloc: Global, model: &str, table: &str, case: &str) -> Result<bool, AllocError> {
+pub(crate) fn is_answered(
+    alloc: Global,
+    model: &str,
+    table: &str,
+    case: &str,
+) -> Result<bool, AllocError> {
     match case.split_once(" => ") {
         Some((query, answers)) => {
             let project = format!(in alloc; "{FRONT}{model}query w {query}\n")?;

@@ -32,4 +32,6 @@ mod small;
 #[cfg(test)]
 mod streaming;
 #[cfg(test)]
+mod wide;
+#[cfg(test)]
 mod writing;

@@ -1,5 +1,5 @@
 -- Which tuples were collected: the terms of the row queries of queries, which are their images.
-use Rattle.std.proofs.Common.{ℕ, ◌≡◌, refl, sym, ◌∙◌, ap, subst, ◌+◌, ◌<◌, ◌≤◌, List, [], ◌∷◌, ◌++◌, length, get_or, take, Option, Some, None, ◌↔◌, ◌⊎◌, inl, inr}
+use Rattle.std.proofs.Common.{ℕ, arith, ◌≡◌, refl, sym, ◌∙◌, ap, subst, ◌+◌, ◌<◌, ◌≤◌, List, [], ◌∷◌, ◌++◌, length, get_or, take, Option, Some, None, ◌↔◌, ◌⊎◌, inl, inr}
 use Rattle.std.specs.List.{flat_map}
 use Rattle.std.specs.Option.{option_to_list}
 use Rattle.std.proofs.lemmas.List.{take_all, take_more}
@@ -20,7 +20,8 @@ use Rattle.mapping_facts.proofs.Members.{In-flat_map, from_flat_map}
 use Rattle.mapping_unfolding.specs.declared.unfolded.Unfolded.{Unfolded}
 use Rattle.mapping_unfolding.specs.Unfoldings.{AreUnfoldings, GivesHead}
 use Rattle.table_renumbering.specs.Tuples.{GivesTerms}
-use Rattle.query_images.specs.Images.{Gains, IsImage, IsImageOfOne, head_at}
+use Rattle.relation_join.specs.Joins.{Gains}
+use Rattle.query_images.specs.Images.{IsImage, IsImageOfOne, head_at}
 
 from_option : {X : Type 0} (o : Option X) (x : X) → In x (option_to_list o) → o ≡ Some x
 from_option None x i = elim i [ ]
@@ -58,20 +59,20 @@ tuples_gained tables q found old new asked all e ts = (
 
 -- one item of a list further
 module _ {X : Type 0} (list : List X) (i : ℕ) (x : X) (l : i < length list) (is : x ≡ get_or list i x) where
-  more : take (i + 1) list ≡ take i list ++ x ∷ []
+  pub more : take (i + 1) list ≡ take i list ++ x ∷ []
   more = take_more list i x l ∙ ap (λ z. take i list ++ z ∷ []) (sym is)
 
-  earlier : (z : X) → In z (take i list) → In z (take (i + 1) list)
+  pub earlier : (z : X) → In z (take i list) → In z (take (i + 1) list)
   earlier z k = subst (In z) (sym more) (In-append_left (x ∷ []) k)
 
-  latest : In x (take (i + 1) list)
+  pub latest : In x (take (i + 1) list)
   latest = subst (In x) (sym more) (In-append_right (take i list) (here refl))
 
   only : (z : X) → In z (x ∷ []) → z ≡ x
   only z (here e) = sym e
   only z (there k) = elim k [ ]
 
-  earlier_or_latest : (z : X) → In z (take (i + 1) list) → In z (take i list) ⊎ (z ≡ x)
+  pub earlier_or_latest : (z : X) → In z (take (i + 1) list) → In z (take i list) ⊎ (z ≡ x)
   earlier_or_latest z k = elim (In-append_cases (take i list) (x ∷ []) (subst (In z) more k)) [ inl m ↦ inl m | inr m ↦ inr (only z m) ]
 
 -- one row query further
@@ -132,3 +133,35 @@ listed P found tuples same is = record {
   each = λ ts i. (same ts).0 (is.each ts i);
   all = λ ts p. is.all ts ((same ts).1 p);
 }
+
+pub kept : (P : List Term → Type 0) (found tuples : List (List Term)) → ((ts : List Term) → In ts found ↔ P ts) → IsListOf tuple_cmp (λ ts. In ts found) tuples → (ts : List Term) → In ts tuples ↔ P ts
+kept P found tuples same is ts = ((λ i. (same ts).0 (is.each ts i)), (λ p. is.all ts ((same ts).1 p)))
+
+-- both lists together have what the two others have
+abbrev pub Shares : List (List Term) → List (List Term) → List (List Term) → List (List Term) → Type 0
+Shares out found start all = (ts : List Term) → (In ts out ⊎ In ts found) ↔ (In ts start ⊎ In ts all)
+
+pub shares_more : (out found start all new rest : List (List Term)) (x : List Term) → Shares out found start all → found ≡ rest ++ x ∷ [] → new ≡ out ++ x ∷ [] → Shares new rest start all
+shares_more out found start all new rest x same e is ts = (
+  (λ k. (same ts).0 (elim k [
+    | inl i ↦ elim (In-append_cases out (x ∷ []) (subst (In ts) is i)) [ inl m ↦ inl m | inr m ↦ inr (subst (In ts) (sym e) (In-append_right rest m)) ]
+    | inr i ↦ inr (subst (In ts) (sym e) (In-append_left (x ∷ []) i))
+  ])),
+  (λ k. elim ((same ts).1 k) [
+    | inl i ↦ inl (subst (In ts) (sym is) (In-append_left (x ∷ []) i))
+    | inr i ↦ elim (In-append_cases rest (x ∷ []) (subst (In ts) e i)) [ inl m ↦ inr m | inr m ↦ inl (subst (In ts) (sym is) (In-append_right out m)) ]
+  ]),
+)
+
+pub shares_all : (out found start all : List (List Term)) → Shares out found start all → found ≡ [] → Gains (λ ts. In ts all) start out
+shares_all out found start all same e ts = (
+  (λ i. (same ts).0 (inl i)),
+  (λ k. elim ((same ts).1 k) [ inl i ↦ i | inr i ↦ none (subst (In ts) e i) ]),
+)
+  where
+    none : In ts [] → In ts out
+    none i = elim i [ ]
+
+pub no_items : {X : Type 0} (xs : List X) → length xs ≡ 0 → xs ≡ []
+no_items [] e = refl
+no_items (x ∷ xs) e = absurd (omega (arith, e))

@@ -1,2 +1,4 @@
 pub mod Imaged
-pub mod InOrder
+pub mod Noting
+pub mod Parts
+pub mod Scanning

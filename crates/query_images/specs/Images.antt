@@ -1,5 +1,5 @@
 -- The images of a query over tables.
-use Rattle.std.specs.Prelude.{ℕ, ◌≤◌, ◌↔◌, ◌⊎◌, List, length}
+use Rattle.std.specs.Prelude.{ℕ, ◌≤◌, List, length}
 use Rattle.std.specs.Option.{option_to_list}
 use Rattle.vocabulary.specs.declared.term.Term.{Term}
 use Rattle.vocabulary.specs.declared.term.Fact.{Fact}
@@ -19,10 +19,6 @@ IsImage facts q ts = (σ : Terms) × IsMatch facts q ts σ
 -- the tuple is an image of one of the queries (a union of conjunctive queries)
 abbrev pub IsImageOfOne : List Fact → List Query → List Term → Type 0
 IsImageOfOne facts queries ts = (q : Query) × In q queries × IsImage facts q ts
-
--- the new list has what the old one has and what P holds of, and no more
-abbrev pub Gains : (List Term → Type 0) → List (List Term) → List (List Term) → Type 0
-Gains P old new = (ts : List Term) → In ts new ↔ (In ts old ⊎ P ts)
 
 -- a query that can be unfolded
 pub record CanUnfold (q : Query) : Type 0 where

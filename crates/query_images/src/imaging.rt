@@ -9,9 +9,9 @@ ghost use Rattle.mapping_facts.specs.Fits.{AreFit};
 ghost use Rattle.query_images.specs.Images.{CanUnfold, IsImage, IsImageOfOne};
 
 use crate::collecting::add_images;
-use crate::ordering::in_order;
 use mapping_facts::Mapping;
 use queries::Query;
+use relation_join::{FEW, put_in_order, trim};
 use source_tables::Table;
 use std::alloc::{AllocError, Global};
 use vocabulary::{List, Term};
@@ -31,8 +31,8 @@ pub fn images(
 {
     let mut found = Vec::new(alloc);
     add_images(alloc, query, mappings, tables, &mut found)?;
-    let tuples = in_order(found)?;
-    Ok(List::from_vec(tuples))
+    put_in_order(&mut found)?;
+    Ok(List::from_vec(found))
 }
 
 /// The images of a union of queries: those of each of them. One query is unfolded and joined at a
@@ -47,9 +47,9 @@ pub fn union_images(
     requires fit { AreFit mappings.now }
     ensures { IfOk result (IsListOf tuple_cmp (IsImageOfOne (mapped_facts mappings.now tables.now) queries.now)) }
 {
-    let found = all_images(alloc, queries, mappings, tables)?;
-    let tuples = in_order(found)?;
-    Ok(List::from_vec(tuples))
+    let mut found = all_images(alloc, queries, mappings, tables)?;
+    put_in_order(&mut found)?;
+    Ok(List::from_vec(found))
 }
 
 fn all_images(
@@ -63,8 +63,10 @@ fn all_images(
     ensures { IfOk result (λ found. (ts : ListOf TermOf) → In ts found.items ↔ IsImageOfOne (mapped_facts mappings.now tables.now) queries.now ts) }
 {
     let mut found = Vec::new(alloc);
+    let mut most = FEW;
     for query in queries {
         add_images(alloc, query, mappings, tables, &mut found)?;
+        most = trim(&mut found, most)?;
     }
     Ok(found)
 }

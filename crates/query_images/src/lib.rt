@@ -1,8 +1,9 @@
 //! The images of queries in mapped facts.
 #![tactic(auto)]
 
+mod choosing;
 mod collecting;
+mod cutting;
 mod imaging;
-mod ordering;
 
 pub use imaging::{images, union_images};

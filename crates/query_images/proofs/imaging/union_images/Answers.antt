@@ -10,4 +10,4 @@ use Rattle.query_images.proofs.imaging.union_images.Goals as goal
 pub returns : goal.returns
 returns c =
     let P = IsImageOfOne (mapped_facts c.args.mappings.now c.args.tables.now) c.args.queries.now in
-    subst (IsListOf tuple_cmp P) (sym c.from_vec.ensures) (listed P c.in_ok-found.found.items c.in_ok-tuples.tuples.items c.in_ok-found.ensures c.in_ok-tuples.ensures)
+    subst (IsListOf tuple_cmp P) (sym c.from_vec.ensures) (listed P c.in_ok-found.found.items c.put_in_order.new.tuples.items c.in_ok-found.ensures c.in_ok-put_in_order.ensures)
