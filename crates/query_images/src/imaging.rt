@@ -32,6 +32,7 @@ pub fn images(
     let mut found = Vec::new(alloc);
     add_images(alloc, query, mappings, tables, &mut found)?;
     put_in_order(&mut found)?;
+    found.shrink_to_fit();
     Ok(List::from_vec(found))
 }
 
@@ -49,6 +50,7 @@ pub fn union_images(
 {
     let mut found = all_images(alloc, queries, mappings, tables)?;
     put_in_order(&mut found)?;
+    found.shrink_to_fit();
     Ok(List::from_vec(found))
 }
 
