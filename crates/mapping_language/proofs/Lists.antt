@@ -1,5 +1,5 @@
 -- Lists through a function on their items.
-use Rattle.std.proofs.Common.{◌≡◌, refl, ap, ◌∙◌, ◌||◌, ℕ, zero, suc, ◌+◌, ◌-◌, ◌<◌, ◌≤◌, Bool, true, false, List, [], ◌∷◌, ◌++◌, Option, map, take, drop, length, get_or, arith, add-one, drop-cons, cond, not, position, option_map, slice_get}
+use Rattle.std.proofs.Common.{◌≡◌, refl, ap, ◌∙◌, ◌||◌, ℕ, zero, suc, ◌+◌, ◌<◌, ◌≤◌, Bool, true, false, List, [], ◌∷◌, ◌++◌, Option, map, take, drop, length, get_or, arith, add-one, drop-cons, cond, not, position, option_map, slice_get}
 use Rattle.std.proofs.Math.ListN.{set}
 use Rattle.std.proofs.lemmas.Grind.{flat_map-append}
 use Rattle.std.specs.List.{list_any, flat_map, filter_map, position_or_len}
@@ -78,3 +78,8 @@ gathered_of_map g f (x ∷ xs) = ap (λ ys. g (f x) ++ ys) (gathered_of_map g f 
 
 pub mapped_step : {X Y : Type 0} (f : X → Y) (xs : List X) (i : ℕ) (d : X) (old new : List Y) (y : Y) → i < length xs → old ≡ map f (take i xs) → y ≡ f (get_or xs i d) → new ≡ old ++ y ∷ [] → new ≡ map f (take (i + 1) xs)
 mapped_step f xs i d old new y lt so is pushed = rw (pushed, is, so, mapped_more f xs i d lt) refl
+
+pub get_or_mapped : {X Y : Type 0} (f : X → Y) (xs : List X) (i : ℕ) (d : X) (e : Y) → i < length xs → get_or (map f xs) i e ≡ f (get_or xs i d)
+get_or_mapped f [] i d e l = absurd (omega (arith, l))
+get_or_mapped f (x ∷ xs) zero d e l = refl
+get_or_mapped f (x ∷ xs) (suc i) d e l = get_or_mapped f xs i d e (omega (arith, l))

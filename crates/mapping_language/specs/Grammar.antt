@@ -1,5 +1,5 @@
 -- The grammar of source lines and mapping lines, over the tokens of a line.
-use Rattle.std.specs.Prelude.{ℕ, List, [], ◌∷◌, Option, Some, None, if◌then◌else◌, codes}
+use Rattle.std.specs.Prelude.{ℕ, List, [], Option, Some, None, if◌then◌else◌, codes}
 use Rattle.line_lexer.specs.Tokens.{Seen}
 use Rattle.line_lexer.specs.Grammar.{◌>>=◌, either, expect, any_quoted, name, ended}
 use Rattle.line_lexer.specs.Separated.{separated}

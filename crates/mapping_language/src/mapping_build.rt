@@ -146,9 +146,10 @@ fn places_of(
 ) -> Result<List<Place>, AllocError>
     ensures { IfOk result (λ list. list ≡ map (λ hole. place_of_cell sources.now (map_shown line.now) (cell_named hole)) (hole_texts template.now)) }
 {
+    let holes = template.hole_texts(alloc)?;
     let mut list = List::new(alloc);
-    for i in 0..template.holes() {
-        let cell = cell_of_hole(template.hole_text(i));
+    for hole in &holes {
+        let cell = cell_of_hole(hole);
         list.push(place_at(sources, line, &cell)?)?;
     }
     Ok(list)

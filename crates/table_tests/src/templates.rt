@@ -185,8 +185,9 @@ fn is_matched(alloc: Global, template: &Template, case: &str) -> Result<bool, Al
     }
 }
 
-fn has_two_holes(template: &Template) -> bool {
-    template.holes() == 2 && template.hole_text(0) == "x" && template.hole_text(1) == "y"
+fn has_two_holes(alloc: Global, template: &Template) -> Result<bool, AllocError> {
+    let holes = template.hole_texts(alloc)?;
+    Ok(holes.len() == 2 && holes[0] == "x" && holes[1] == "y")
 }
 
 fn is_hole(segment: &Segment, want: &str) -> bool {
@@ -247,7 +248,7 @@ fn are_matched(alloc: Global, template: &Template, cases: &str) -> Result<bool, 
 #[test]
 fn the_filling_is_read_back_from_a_text(rt: HostRuntime) -> Result<(), Fail> {
     let template = Template::parse(rt.alloc(), "/p/{x}/{y}")?;
-    assert!(rt; has_two_holes(&template));
+    assert!(rt; has_two_holes(rt.alloc(), &template)?);
     assert!(rt; are_matched(rt.alloc(), &template, MATCHED)?);
     Ok(())
 }
