@@ -5,7 +5,7 @@ use crate::cases::{holds, repeated, tells_over};
 use std::alloc::{AllocError, Global};
 use std::test::Fail;
 
-const FRONT: &str = "onprom 1
+pub(crate) const FRONT: &str = "onprom 1
 table t \"t.csv\"
 column t a text
 column t b text

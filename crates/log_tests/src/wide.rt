@@ -1,6 +1,7 @@
 //! Queries over links that many mappings give: of their atoms more row queries can be made than are made at once.
 use crate::cases::repeated;
-use crate::folds::is_answered;
+use crate::folds::{FRONT, is_answered};
+use crate::models::shows;
 use std::alloc::{AllocError, Global};
 use std::test::Fail;
 
@@ -40,6 +41,37 @@ fn links_of_many_mappings_are_joined(rt: HostRuntime) -> Result<(), Fail> {
             is_answered(rt.alloc(), model.as_str(), ROWS, case)?,
             "{case}"
         );
+    }
+    Ok(())
+}
+
+const ASKED: &str = "query w (v, z) where p(v, w), p(w, x), p(x, y), p(y, z)\n";
+
+const EXPLAINED: &str = "why p w 2
+=> 0
+atom 1
+atom 2
+atom 3
+atom 4
+end
+--
+why <http://e/2> <http://e/6>
+~
+why p w 6
+=> 3
+--
+refused: answer 6: Unknown";
+
+fn is_explained(alloc: Global, model: &str, case: &str) -> Result<bool, AllocError> {
+    let project = format!(in alloc; "{FRONT}{model}{ASKED}")?;
+    shows(alloc, &[("p", project.as_str()), ("t.csv", ROWS)], case)
+}
+
+#[test]
+fn an_answer_over_many_mappings_is_explained(rt: HostRuntime) -> Result<(), Fail> {
+    let model = repeated(rt.alloc(), PATH, &[8, 8])?;
+    for case in EXPLAINED.split("\n~\n") {
+        assert!(rt; is_explained(rt.alloc(), model.as_str(), case)?, "{case}");
     }
     Ok(())
 }

@@ -45,7 +45,7 @@ arg_as σ τ Blank t h is = is
 arg_as σ τ (Var v) t h is = sym (h v (var_occurs v)) ∙ is
 arg_as σ τ (Fixed u) t h is = is
 
-atom_as : (σ τ : Terms) (a : Atom) (f : Fact) → ((v : VarId) → 1 ≤ atom_occurs v a → σ v ≡ τ v) → AtomIs σ a f → AtomIs τ a f
+pub atom_as : (σ τ : Terms) (a : Atom) (f : Fact) → ((v : VarId) → 1 ≤ atom_occurs v a → σ v ≡ τ v) → AtomIs σ a f → AtomIs τ a f
 atom_as σ τ (InClass a x) (ClassFact b t) h is = (is.0, arg_as σ τ x t h is.1)
 atom_as σ τ (InClass a x) (LinkFact q s t) h is = absurd is
 atom_as σ τ (Linked p x y) (ClassFact b t) h is = absurd is
@@ -63,22 +63,22 @@ head_as σ τ (x ∷ head) [] h is = absurd is
 head_as σ τ (x ∷ head) (t ∷ ts) h is = (head_arg_as σ τ x t (λ v e. h v (here e)) is.0, head_as σ τ head ts (λ v i. h v (there i)) is.1)
 
 -- the image of variables is their row
-head_row : (σ : Terms) (vars : List VarId) (row : List Term) → HeadIs σ (map Var vars) row → map σ vars ≡ row
+pub head_row : (σ : Terms) (vars : List VarId) (row : List Term) → HeadIs σ (map Var vars) row → map σ vars ≡ row
 head_row σ [] [] h = refl
 head_row σ [] (t ∷ row) h = absurd h
 head_row σ (v ∷ vars) [] h = absurd h
 head_row σ (v ∷ vars) (t ∷ row) h = let a = h.0 in let b = head_row σ vars row h.1 in (ap (λ z. z ∷ map σ vars) a ∙ ap (λ z. t ∷ z) b)
 
-row_head : (σ : Terms) (vars : List VarId) → HeadIs σ (map Var vars) (map σ vars)
+pub row_head : (σ : Terms) (vars : List VarId) → HeadIs σ (map Var vars) (map σ vars)
 row_head σ [] = tt
 row_head σ (v ∷ vars) = (refl, row_head σ vars)
 
-same_at : (σ τ : Terms) (vars : List VarId) (v : VarId) → map σ vars ≡ map τ vars → In v vars → σ v ≡ τ v
+pub same_at : (σ τ : Terms) (vars : List VarId) (v : VarId) → map σ vars ≡ map τ vars → In v vars → σ v ≡ τ v
 same_at σ τ [] v e i = elim i [ ]
 same_at σ τ (w ∷ vars) v e (here h) = subst (λ z. σ z ≡ τ z) h (ap (λ l. get_or l 0 (σ w)) e)
 same_at σ τ (w ∷ vars) v e (there i) = same_at σ τ vars v (ap (drop 1) e) i
 
-of_vars : (vars : List VarId) (x : Arg) → In x (map Var vars) → (v : VarId) × In v vars × (x ≡ Var v)
+pub of_vars : (vars : List VarId) (x : Arg) → In x (map Var vars) → (v : VarId) × In v vars × (x ≡ Var v)
 of_vars [] x i = elim i [ ]
 of_vars (v ∷ vars) x (here e) = (v, here refl, sym e)
 of_vars (v ∷ vars) x (there i) = let r = of_vars vars x i in (r.0, there r.1, r.2)

@@ -23,3 +23,10 @@ pub record IsCut (q one rest : Query) (vars more : List VarId) : Type 0 where
   pub second : AreShared rest.atoms one.atoms q.head more
   pub first_head : one.head ≡ map Var vars
   pub second_head : rest.head ≡ map Var more
+
+-- the second query has the atoms of the first, and its head each variable that stands in them
+pub record HasAllVariables (q full : Query) : Type 0 where
+  pub vars : List VarId
+  pub atoms : full.atoms ≡ q.atoms
+  pub head : full.head ≡ map Var vars
+  pub stand : (v : VarId) → In v vars ↔ (1 ≤ count v q.atoms)

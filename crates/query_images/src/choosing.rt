@@ -30,8 +30,9 @@ fn ways_of(atom: &Atom, mappings: &[Mapping]) -> usize {
     found
 }
 
-/// Whether the query is cut in two. One of a single atom is not.
-pub(crate) fn is_wide(atoms: &[Atom], mappings: &[Mapping]) -> bool
+/// Whether a query of these atoms is cut in two, since it unfolds into many row queries. One of a
+/// single atom is not.
+pub fn is_wide(atoms: &[Atom], mappings: &[Mapping]) -> bool
     ensures { IsTrue result → 2 ≤ length atoms.now }
 {
     if atoms.len() < 2 {

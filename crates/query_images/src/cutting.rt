@@ -5,8 +5,8 @@ ghost use Rattle.vocabulary.specs.declared.ids.VarId.{VarId as VarIdOf};
 ghost use Rattle.queries.specs.declared.query.Arg.{Arg as ArgOf};
 ghost use Rattle.queries.specs.declared.query.Atom.{Atom as AtomOf};
 ghost use Rattle.queries.specs.declared.query.Query.{Query as QueryOf};
-ghost use Rattle.queries.specs.Occurrences.{atom_occurs, count};
-ghost use Rattle.query_images.specs.Cuts.{AreShared, IsCut, IsNeeded};
+ghost use Rattle.queries.specs.Occurrences.{HeadStands, atom_occurs, count};
+ghost use Rattle.query_images.specs.Cuts.{AreShared, HasAllVariables, IsCut, IsNeeded};
 
 use queries::{Arg, Atom, Query};
 use relation_join::Sides;
@@ -197,4 +197,15 @@ pub(crate) fn cut_at(alloc: Global, query: &Query, at: usize) -> Result<Cut, All
     let Query { head, atoms } = query.copy(alloc)?;
     let (one, rest) = taken(alloc, atoms, at)?;
     parts_of(alloc, head, one, rest)
+}
+
+/// The query of the same atoms for every variable that stands in them, each once. What it answers are
+/// the matches of the atoms.
+pub fn with_all_variables(alloc: Global, query: &Query) -> Result<Query, AllocError>
+    ensures variables { IfOk result (HasAllVariables query.now) }
+    ensures stands { IfOk result HeadStands }
+{
+    let Query { head: _, atoms } = query.copy(alloc)?;
+    let vars = shared(alloc, atoms.items(), atoms.items(), &[])?;
+    part(alloc, vars.items(), atoms)
 }

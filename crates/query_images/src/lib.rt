@@ -6,4 +6,6 @@ mod collecting;
 mod cutting;
 mod imaging;
 
+pub use choosing::is_wide;
+pub use cutting::with_all_variables;
 pub use imaging::{images, union_images};

@@ -10,6 +10,7 @@ pub mod Puts
 pub mod Running
 mod Samples
 pub mod Searching
+pub mod Solid
 pub mod Tupled
 pub mod Unfolding
 pub mod Unwound

@@ -1,11 +1,13 @@
 -- Facts of tables for the atoms of a query.
-use Rattle.std.specs.Prelude.{ℕ, List, [], ◌∷◌, length, Option, Some, option_map, slice_get}
+use Rattle.std.specs.Prelude.{ℕ, ◌≡◌, List, [], ◌∷◌, length, Option, Some, option_map, slice_get}
 use Rattle.std.specs.Option.{option_and_then}
+use Rattle.vocabulary.specs.declared.ids.VarId.{VarId}
 use Rattle.vocabulary.specs.declared.term.Fact.{Fact}
 use Rattle.vocabulary.specs.Lists.{In}
 use Rattle.source_tables.specs.Tables.{Loaded}
 use Rattle.queries.specs.declared.query.Atom.{Atom}
-use Rattle.queries.specs.Matches.{Matched, Terms}
+use Rattle.queries.specs.Matches.{AtomIs, Matched, Terms}
+use Rattle.queries.specs.Occurrences.{atom_occurs, count}
 use Rattle.mapping_facts.specs.declared.mapping.Mapping.{Mapping}
 use Rattle.mapping_facts.specs.Facts.{mapped_facts, mapping_fact}
 use Rattle.mapping_unfolding.specs.declared.draft.Origin.{Origin}
@@ -29,3 +31,18 @@ NoMatch facts atoms = (σ : Terms) → Matched facts σ atoms → ⊥
 pub record ReadMapped (mappings : List Mapping) (tables : List Loaded) (atoms : List Atom) (facts : List Fact) : Type 0 where
   pub read : Read atoms facts
   pub mapped : (f : Fact) → In f facts → In f (mapped_facts mappings tables)
+
+-- no variable stands in the atom, in the atoms
+abbrev pub IsWithoutVariables : Atom → Type 0
+IsWithoutVariables a = (v : VarId) → atom_occurs v a ≡ 0
+
+abbrev pub AreWithoutVariables : List Atom → Type 0
+AreWithoutVariables atoms = (v : VarId) → count v atoms ≡ 0
+
+-- the atom stands for one of the facts
+abbrev pub HasFact : List Fact → Atom → Type 0
+HasFact facts a = (σ : Terms) × (f : Fact) × In f facts × AtomIs σ a f
+
+-- one of the facts, for which the atom stands whatever the variables are
+abbrev pub IsFactOf : List Fact → Atom → Fact → Type 0
+IsFactOf facts a f = In f facts × ((σ : Terms) → AtomIs σ a f)

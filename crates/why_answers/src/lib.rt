@@ -19,6 +19,7 @@ mod putting;
 mod reading;
 mod showing;
 mod unwinding;
+mod wide;
 
 pub use answering::why;
 pub use explaining::explains;

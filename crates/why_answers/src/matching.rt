@@ -7,11 +7,13 @@ ghost use Rattle.mapping_facts.specs.RowQueries.{row_tuples};
 ghost use Rattle.mapping_unfolding.specs.Unfoldings.{HasOrigins, items_from};
 ghost use Rattle.why_answers.specs.Matching.{NoMatch, ReadMapped, origin_fact, origin_facts};
 
+use crate::wide::wide_match;
 use join_engine::some_tuple;
 use mapping_facts::laws::have_texts;
 use mapping_facts::{Mapping, fact_of};
 use mapping_unfolding::{Origin, Unfolded, unfold};
 use queries::Query;
+use query_images::is_wide;
 use source_tables::Table;
 use std::alloc::{AllocError, Global};
 use vocabulary::{Fact, List};
@@ -93,9 +95,8 @@ fn facts_in(
     }
 }
 
-/// Mapped facts for the atoms of a query without a head, `None` exactly where it has no match in the
-/// mapped facts. It stops at the first tuple of rows.
-pub fn match_of(
+// The facts at the first tuple of rows that a row query of the query has.
+pub(crate) fn unfolded_match(
     alloc: Global,
     query: &Query,
     mappings: &[Mapping],
@@ -114,4 +115,25 @@ pub fn match_of(
         }
     }
     Ok(None)
+}
+
+/// Mapped facts for the atoms of a query without a head, `None` exactly where it has no match in the
+/// mapped facts. A query that unfolds into few row queries is unfolded as it stands, up to the first
+/// tuple of rows; the images of one of many are joined, and one of them is looked for atom by atom.
+pub fn match_of(
+    alloc: Global,
+    query: &Query,
+    mappings: &[Mapping],
+    tables: &[Table],
+) -> Result<Option<List<Fact>>, AllocError>
+    requires head { query.now.head ≡ [] }
+    requires few { length query.now.atoms ≤ 16 }
+    requires fit { AreFit mappings.now }
+    ensures { IfOk result (λ found. MatchOption found (NoMatch (mapped_facts mappings.now tables.now) query.now.atoms) (ReadMapped mappings.now tables.now query.now.atoms)) }
+{
+    if is_wide(query.atoms.items(), mappings) {
+        wide_match(alloc, query, mappings, tables)
+    } else {
+        unfolded_match(alloc, query, mappings, tables)
+    }
 }

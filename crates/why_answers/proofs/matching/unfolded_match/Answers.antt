@@ -8,7 +8,7 @@ use Rattle.mapping_facts.proofs.Members.{All-In}
 use Rattle.mapping_unfolding.specs.Unfoldings.{HasOrigins}
 use Rattle.fact_derivation.proofs.Loops.{item_listed}
 use Rattle.why_answers.proofs.AtTuples.{no_head, no_match, one_further}
-use Rattle.why_answers.proofs.matching.match_of.Goals as goal
+use Rattle.why_answers.proofs.matching.unfolded_match.Goals as goal
 
 pub unfold-requires-clause-head : goal.unfold-requires-clause-head
 unfold-requires-clause-head c = no_head c.args.query.now c.requires.head
