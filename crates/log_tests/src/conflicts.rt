@@ -28,7 +28,7 @@ const OF_PARTNERS: &str = "1,1 => none
 3,1 1,2 3,4 1,5 => 1";
 
 // Each A has a partner, which is a B and so a C, and nothing is both: the clash is on what is not known.
-const UNKNOWN: &str = "onprom 1
+pub(crate) const UNKNOWN: &str = "onprom 1
 table t \"t.csv\"
 column t a text
 class A

@@ -3,21 +3,9 @@
 //! Which proof and which explanation is written is free. So steps are left out of what is compared, and the
 //! numbers of steps behind `atom I` and `clash`.
 use crate::cases::{holds, repeated, shelf_of, told};
+use crate::conflicts::UNKNOWN;
 use std::alloc::{AllocError, Global};
 use std::test::Fail;
-
-// Each A has a B as its partner, each B is a C, and nothing is both.
-const CLASHING: &str = "onprom 1
-table t \"t.csv\"
-column t a text
-class A
-class B
-class C
-disjoint B C
-assoc p A * -> B 1..*
-sub B C
-map m from t x then A(iri \"http://e/a/{x.a}\")
-";
 
 // Each review is about a paper.
 const REVIEWS: &str = "onprom 1
@@ -86,7 +74,7 @@ void 3";
 
 #[test]
 fn a_class_that_nothing_can_be_in_is_void(rt: HostRuntime) -> Result<(), Fail> {
-    assert!(rt; shows(rt.alloc(), &[("p", CLASHING)], VOID)?);
+    assert!(rt; shows(rt.alloc(), &[("p", UNKNOWN)], VOID)?);
     Ok(())
 }
 

@@ -31,7 +31,7 @@ fn ways_of(atom: &Atom, mappings: &[Mapping]) -> usize {
 }
 
 /// Whether a query of these atoms is cut in two, since it unfolds into many row queries. One of a
-/// single atom is not.
+/// single atom is not. Which others are is a choice of time and memory alone, so no clause says it.
 pub fn is_wide(atoms: &[Atom], mappings: &[Mapping]) -> bool
     ensures { IsTrue result → 2 ≤ length atoms.now }
 {

@@ -17,11 +17,12 @@ pub fn put_in_order(tuples: &mut Vec<List<Term>>) -> Result<(), AllocError>
     Ok(())
 }
 
-/// So many tuples are let be.
+/// The number of tuples to begin with: so many are let be, repeats or not.
 pub const FEW: usize = 4_096;
 
-/// Drops repeats where there are more than so many tuples. The answer is how many there may be until
-/// this is asked again: twice as many as are left, so that it takes no more than the tuples do.
+/// Drops repeats where there are more than so many tuples. The answer is how many there may be when
+/// this is asked again: twice as many as are left, so that a list that grows is sorted each time it
+/// has doubled. How many is a choice of time and memory alone, so no clause says it.
 pub fn trim(tuples: &mut Vec<List<Term>>, most: usize) -> Result<usize, AllocError>
     ensures same { IfOk result (λ _. (ts : ListOf TermOf) → In ts tuples.new.items ↔ In ts tuples.old.items) }
     ensures room { IfOk result (λ n. length tuples.new.items ≤ n) }
